@@ -1,0 +1,219 @@
+-- Laws of the definitions of specs/Coding.antt, as the functions of this crate step through a text.
+--
+-- In order: an escape, a sound byte and a symbol at an index of a text, by cases; the width of a symbol, and of a byte
+-- that is written; one symbol or one byte further, and the end, for `decode`, `wellFormed` and `encode`; the scans that
+-- accumulate an answer, one step further and at the end; a byte that is written, by cases.
+--
+-- Not here: what the definitions say of whole texts (`RoundTrip`), hex digits (`Rattle.encoding.proofs.Hex`).
+-- Assumes nothing.
+use Prim.Native.Nat.{ℕ, zero, suc, _+_, _*_, _/_, _%_, _<_, _≤_}
+use mathlib.Core.Path.{_≡_, refl, sym, _∙_, ap}
+use mathlib.Core.List.{List, [], _∷_, _++_}
+use mathlib.Core.Bool.{Bool, true, false, cond, not, _&&_, _||_, and-assoc, and-true}
+use native.Mathlib.Nat.{not-suc-le-zero, add-zero}
+use native.Mathlib.Numerals.{add-one}
+use native.Mathlib.Omega.{arith}
+use borrow.Author.Tests.{eq-eqb, ne-eqb, ltb-true, ltb-false, leb-true, leb-false}
+use lib.Dec.{leb, ltb, eqb}
+use lib.ListN.{getD, length, drop, length-drop, drop-of-length-le}
+use lib.Seq.{drop-cons, drop-drop, getD-drop}
+use Rattle.octets.specs.Lists.{same}
+use Rattle.octets.proofs.Booleans.{and-left, and-right, and-false}
+use Rattle.encoding.specs.Hex.{hexValue, hexDigit}
+use Rattle.form_coding.specs.declared.Symbol.{Symbol}
+use Rattle.form_coding.specs.Coding.{isEscape, plain, firstByte, extra, decodeAfter, decode, symbolOf, sound, wellFormed, isKept, encodeByte, encode, isAt}
+
+-- ---- an escape at an index, by cases
+
+module _ (v : List ℕ) (i : ℕ) where
+  escape-at : isEscape (drop i v) ≡ (eqb (getD v i 0) 37 && (ltb (hexValue true (getD v (i + 1) 0)) 16 && ltb (hexValue true (getD v (i + 2) 0)) 16))
+  unfolding isEscape
+  escape-at = simp (getD-drop, add-zero)
+
+  -- what begins no escape, and what does behind a %
+  pub escape-other : (getD v i 0 ≡ 37 → ⊥) → false ≡ isEscape (drop i v)
+  escape-other h = rw (escape-at, ne-eqb (getD v i 0) 37 h)
+
+  pub escape-percent : getD v i 0 ≡ 37
+      → (ltb (hexValue true (getD v (i + 1) 0)) 16 && ltb (hexValue true (getD v (i + 2) 0)) 16) ≡ isEscape (drop i v)
+  escape-percent h = rw (escape-at, eq-eqb (getD v i 0) 37 h)
+
+  -- an escape has two digits
+  pub escape-digits : isEscape (drop i v) ≡ true → (hexValue true (getD v (i + 1) 0) < 16) × (hexValue true (getD v (i + 2) 0) < 16)
+  escape-digits e =
+      let h : Bool = ltb (hexValue true (getD v (i + 1) 0)) 16 in
+      let l : Bool = ltb (hexValue true (getD v (i + 2) 0)) 16 in
+      let both = and-right (eqb (getD v i 0) 37) (h && l) (sym escape-at ∙ e) in
+      (ltb-true _ _ (and-left h l both), ltb-true _ _ (and-right h l both))
+
+-- ---- the byte at an index is sound, by cases
+
+module _ (v : List ℕ) (i : ℕ) where
+  sound-at : sound (drop i v) ≡ (not (eqb (getD v i 0) 37) || isEscape (drop i v))
+  unfolding sound
+  sound-at = simp (getD-drop, add-zero)
+
+  pub sound-other : (getD v i 0 ≡ 37 → ⊥) → true ≡ sound (drop i v)
+  sound-other h = rw (sound-at, ne-eqb (getD v i 0) 37 h)
+
+  pub sound-percent : getD v i 0 ≡ 37 → isEscape (drop i v) ≡ sound (drop i v)
+  sound-percent h = rw (sound-at, eq-eqb (getD v i 0) 37 h)
+
+-- ---- the symbol at an index, by cases
+
+module _ (v : List ℕ) (i : ℕ) where
+  first-at : firstByte (drop i v)
+      ≡ cond (isEscape (drop i v)) (hexValue true (getD v (i + 1) 0) * 16 + hexValue true (getD v (i + 2) 0)) (plain (getD v i 0))
+  unfolding firstByte
+  first-at = simp (getD-drop, add-zero)
+
+  pub symbol-escape : isEscape (drop i v) ≡ true
+      → symbolOf (drop i v) ≡ record { byte = hexValue true (getD v (i + 1) 0) * 16 + hexValue true (getD v (i + 2) 0); width = 3 }
+  unfolding symbolOf extra
+  symbol-escape e = rw (first-at, e)
+
+  module _ (e : isEscape (drop i v) ≡ false) where
+    pub symbol-space : getD v i 0 ≡ 43 → symbolOf (drop i v) ≡ record { byte = 32; width = 1 }
+    unfolding symbolOf extra plain
+    symbol-space h = rw (first-at, e, eq-eqb (getD v i 0) 43 h)
+
+    pub symbol-itself : (getD v i 0 ≡ 43 → ⊥) → symbolOf (drop i v) ≡ record { byte = getD v i 0; width = 1 }
+    unfolding symbolOf extra plain
+    symbol-itself h = rw (first-at, e, ne-eqb (getD v i 0) 43 h)
+
+-- ---- widths
+
+-- a symbol takes no more bytes than there are: past the end stands 0, which is no digit
+pub extra-le : (l : List ℕ) → 0 < length l → extra l + 1 ≤ length l
+unfolding extra isEscape hexValue
+extra-le [] h = absurd (not-suc-le-zero h)
+extra-le (a ∷ []) h = rw (and-false (eqb a 37)) (omega arith)
+extra-le (a ∷ b ∷ []) h = rw (and-false, and-false (eqb a 37)) (omega arith)
+extra-le (a ∷ b ∷ d ∷ t) h = short (isEscape (a ∷ b ∷ d ∷ t)) (length t)
+  where
+    short : (q : Bool) (n : ℕ) → cond q 2 0 + 1 ≤ suc (suc (suc n))
+    short true n = omega arith
+    short false n = omega arith
+
+-- a byte is written in one to three
+pub byte-length : (b : ℕ) → (1 ≤ length (encodeByte b)) × (length (encodeByte b) ≤ 3)
+unfolding encodeByte
+byte-length b = by (isKept b) (eqb b 32)
+  where
+    written : Bool → Bool → List ℕ
+    written p q = cond p (b ∷ []) (cond q (43 ∷ []) (37 ∷ hexDigit 65 (b / 16) ∷ hexDigit 65 (b % 16) ∷ []))
+
+    by : (p q : Bool) → (1 ≤ length (written p q)) × (length (written p q) ≤ 3)
+    by true q = (omega arith, omega arith)
+    by false true = (omega arith, omega arith)
+    by false false = (omega arith, omega arith)
+
+-- ---- one symbol or one byte further
+
+-- bytes that belong to an escape are passed over
+pub decode-after : (k : ℕ) (l : List ℕ) → decodeAfter k l ≡ decode (drop k l)
+unfolding decodeAfter
+decode-after zero [] = refl
+decode-after (suc k) [] = refl
+decode-after (suc k) (c ∷ t) = decode-after k t
+decode-after zero (c ∷ t) = refl
+
+pub decode-some : (l : List ℕ) → 0 < length l → decode l ≡ firstByte l ∷ decode (drop (extra l + 1) l)
+unfolding decodeAfter
+decode-some [] h = absurd (not-suc-le-zero h)
+decode-some (c ∷ t) h = rw add-one (ap (λ (r : List ℕ). firstByte (c ∷ t) ∷ r) (decode-after (extra (c ∷ t)) t))
+
+module _ (v : List ℕ) (i : ℕ) (h : i < length v) where
+  -- the symbol s that stands at the index
+  module _ {s : Symbol} (e : s ≡ symbolOf (drop i v)) where
+    some : 0 < length (drop i v)
+    some = simp length-drop (omega arith)
+
+    width-of : s .width ≡ extra (drop i v) + 1
+    unfolding symbolOf
+    width-of = ap (λ (s : Symbol). s .width) e
+
+    byte-of : s .byte ≡ firstByte (drop i v)
+    unfolding symbolOf
+    byte-of = ap (λ (s : Symbol). s .byte) e
+
+    pub width-fits : (0 < s .width) × (i + s .width ≤ length v)
+    width-fits = let w = width-of in let f = simp length-drop at (extra-le (drop i v) some) in (omega arith, omega arith)
+
+    pub decode-step : decode (drop i v) ≡ s .byte ∷ decode (drop (i + s .width) v)
+    decode-step = decode-some (drop i v) some ∙ rw (drop-drop, ← width-of, ← byte-of)
+
+  pub well-step : wellFormed (drop i v) ≡ (sound (drop i v) && wellFormed (drop (i + 1) v))
+  unfolding wellFormed
+  well-step = rw (add-one, drop-cons v i 0)
+
+  pub encode-step : encode (drop i v) ≡ encodeByte (getD v i 0) ++ encode (drop (i + 1) v)
+  unfolding encode
+  encode-step = rw (add-one, drop-cons v i 0)
+
+-- ---- past the end nothing is left
+
+module _ (v : List ℕ) (i : ℕ) (h : length v ≤ i) where
+  pub decode-end : decode (drop i v) ≡ []
+  unfolding decodeAfter
+  decode-end = rw (drop-of-length-le v h)
+
+  pub well-end : wellFormed (drop i v) ≡ true
+  unfolding wellFormed
+  well-end = rw (drop-of-length-le v h)
+
+  pub encode-end : encode (drop i v) ≡ []
+  unfolding encode
+  encode-end = rw (drop-of-length-le v h)
+
+-- ---- scans: the answer so far and the answer of the rest, one step further and at the end
+
+module _ (ok : Bool) (v : List ℕ) (i : ℕ) where
+  pub well-more : i < length v → ((ok && sound (drop i v)) && wellFormed (drop (i + 1) v)) ≡ (ok && wellFormed (drop i v))
+  well-more h = and-assoc ok (sound (drop i v)) (wellFormed (drop (i + 1) v)) ∙ rw (well-step v i h)
+
+  pub well-done : length v ≤ i → (ok && wellFormed (drop i v)) ≡ ok
+  well-done h = rw (well-end v i h) (and-true ok)
+
+-- a list that is not empty, against the bytes e from index k on: past their end there is none to equal
+same-cons : (x : ℕ) (xs e : List ℕ) (k : ℕ) → same (x ∷ xs) (drop k e) ≡ (isAt e k x && same xs (drop (k + 1) e))
+unfolding same
+same-cons x xs e k = by (ltb k (length e)) refl
+  where
+    by : (q : Bool) → ltb k (length e) ≡ q → same (x ∷ xs) (drop k e) ≡ ((q && eqb x (getD e k 0)) && same xs (drop (k + 1) e))
+    by true f = let h = ltb-true k (length e) f in rw (add-one, drop-cons e k 0 h)
+    by false f = let h = ltb-false k (length e) f in rw (drop-of-length-le e h)
+
+same-nil : (e : List ℕ) (k : ℕ) → same [] (drop k e) ≡ leb (length e) k
+unfolding same
+same-nil e k = by (leb (length e) k) refl
+  where
+    by : (q : Bool) → leb (length e) k ≡ q → same [] (drop k e) ≡ q
+    by true f = let h = leb-true (length e) k f in rw (drop-of-length-le e h)
+    by false f = let h = leb-false (length e) k f in rw (drop-cons e k 0 h)
+
+module _ (ok : Bool) (v : List ℕ) (i : ℕ) (e : List ℕ) (k : ℕ) where
+  pub same-more : (h : i < length v) {s : Symbol} → s ≡ symbolOf (drop i v)
+      → ((ok && isAt e k (s .byte)) && same (decode (drop (i + s .width) v)) (drop (k + 1) e)) ≡ (ok && same (decode (drop i v)) (drop k e))
+  same-more h {s} f =
+      let rest : List ℕ = decode (drop (i + s .width) v) in
+      and-assoc ok (isAt e k (s .byte)) (same rest (drop (k + 1) e)) ∙ rw (decode-step v i h f, same-cons (s .byte) rest e k)
+
+  pub same-done : length v ≤ i → (ok && leb (length e) k) ≡ (ok && same (decode (drop i v)) (drop k e))
+  same-done h = rw (decode-end v i h, same-nil e k)
+
+-- ---- a byte that is written, by cases
+
+module _ (b : ℕ) where
+  pub byte-kept : isKept b ≡ true → encodeByte b ≡ b ∷ []
+  unfolding encodeByte
+  byte-kept e = rw e
+
+  module _ (e : isKept b ≡ false) where
+    pub byte-space : b ≡ 32 → encodeByte b ≡ 43 ∷ []
+    unfolding encodeByte
+    byte-space h = rw (e, eq-eqb b 32 h)
+
+    pub byte-escape : (b ≡ 32 → ⊥) → encodeByte b ≡ 37 ∷ hexDigit 65 (b / 16) ∷ hexDigit 65 (b % 16) ∷ []
+    unfolding encodeByte
+    byte-escape h = rw (e, ne-eqb b 32 h)

@@ -1,0 +1,25 @@
+-- A byte that is no % is sound; a % is where it begins an escape.
+use borrow.Author.Needs.{needs}
+use mathlib.Core.Path.{_∙_}
+use Rattle.form_coding.proofs.Coding.{sound-other, sound-percent}
+use Rattle.form_coding.proofs.sound_at.Statement.{statement}
+use Rattle.form_coding.proofs.sound_at.Tie as tie
+
+shared-slice-read-if1 : tie.Need-shared-slice-read-if1
+shared-slice-read-if1 c = search needs
+
+returns : tie.Need-returns
+returns c =
+    let a = c .before .before .before .args in
+    sound-other (a .v .now) (a .i) (c .if1 .taken)
+
+is-escape-requires : tie.Need-is-escape-requires
+is-escape-requires c κs = search needs
+
+returns-2 : tie.Need-returns-2
+returns-2 c =
+    let a = c .before .before .before .before .args in
+    c .is-escape .ensures ∙ sound-percent (a .v .now) (a .i) (c .before .if1 .left)
+
+pub sound-at-spec : {M : Type 1} → statement M
+sound-at-spec = tie.close (tie.spec shared-slice-read-if1 returns is-escape-requires returns-2)

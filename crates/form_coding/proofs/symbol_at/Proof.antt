@@ -1,0 +1,79 @@
+-- Each return is one case of the symbol. The digits of an escape are below 16, so that its byte fits.
+use borrow.Author.Needs.{needs}
+use Prim.Native.Nat.{_<_}
+use mathlib.Core.Path.{_≡_, sym, _∙_}
+use mathlib.Core.Bool.{true, false}
+use native.Mathlib.Omega.{arith}
+use lib.ListN.{drop}
+use Rattle.form_coding.specs.Coding.{isEscape}
+use Rattle.form_coding.proofs.Coding.{escape-digits, symbol-escape, symbol-space, symbol-itself}
+use Rattle.form_coding.proofs.symbol_at.Statement.{statement}
+use Rattle.form_coding.proofs.symbol_at.Tie as tie
+
+-- what the first test told
+escape : (c : tie.Then1) → isEscape (drop (c .before .before .before .args .i) (c .before .before .before .args .v .now)) ≡ true
+escape c = sym (c .before .is-escape .ensures) ∙ c .if1 .taken
+
+no-escape : (c : tie.Else1) → isEscape (drop (c .before .before .before .args .i) (c .before .before .before .args .v .now)) ≡ false
+no-escape c = sym (c .before .is-escape .ensures) ∙ c .if1 .left
+
+digits : (c : tie.After-digit-at2) → (c .before .digit-at .result < 16) × (c .digit-at2 .result < 16)
+digits c =
+    let a = c .before .before .before .before .before .args in
+    let d = escape-digits (a .v .now) (a .i) (escape (c .before .before)) in
+    (rw (c .before .digit-at .ensures) (d .0), rw (c .digit-at2 .ensures) (d .1))
+
+is-escape-requires : tie.Need-is-escape-requires
+is-escape-requires c κs = search needs
+
+add-digit-at : tie.Need-add-digit-at
+add-digit-at c = search needs
+
+digit-at-requires : tie.Need-digit-at-requires
+digit-at-requires c κs = search needs
+
+add-digit-at-2 : tie.Need-add-digit-at-2
+add-digit-at-2 c = search needs
+
+digit-at-requires-2 : tie.Need-digit-at-requires-2
+digit-at-requires-2 c κs = search needs
+
+mul-t8 : tie.Need-mul-t8
+mul-t8 c = let d = digits c in omega arith
+
+add-t9 : tie.Need-add-t9
+add-t9 c = let d = digits c in omega arith
+
+returns : tie.Need-returns
+returns c =
+    let a = c .before .before .before .before .before .args in
+    rw (symbol-escape (a .v .now) (a .i) (escape (c .before .before)), c .before .digit-at .ensures, c .digit-at2 .ensures)
+
+shared-slice-read-c : tie.Need-shared-slice-read-c
+shared-slice-read-c c = search needs
+
+returns-2 : tie.Need-returns-2
+returns-2 c =
+    let a = c .before .before .before .before .before .args in
+    sym (symbol-space (a .v .now) (a .i) (no-escape (c .before .before)) (c .if2 .taken))
+
+returns-3 : tie.Need-returns-3
+returns-3 c =
+    let a = c .before .before .before .before .before .args in
+    sym (symbol-itself (a .v .now) (a .i) (no-escape (c .before .before)) (c .if2 .left))
+
+pub symbol-at-spec : {M : Type 1} → statement M
+symbol-at-spec =
+    tie.close
+    (tie.spec
+    is-escape-requires
+    add-digit-at
+    digit-at-requires
+    add-digit-at-2
+    digit-at-requires-2
+    mul-t8
+    add-t9
+    returns
+    shared-slice-read-c
+    returns-2
+    returns-3)
