@@ -1,7 +1,7 @@
 -- Hex digits, and handles as text: 20 bytes in 40 lower-case digits.
-use Prim.Native.Nat.{ℕ, zero, suc, _+_, _-_, _*_, _/_, _%_}
+use Prim.Native.Nat.{ℕ, _+_, _-_, _*_, _/_, _%_}
 use mathlib.Core.List.{List, [], _∷_}
-use mathlib.Core.Bool.{Bool, true, false, cond, _&&_}
+use mathlib.Core.Bool.{Bool, false, cond, _&&_, _||_}
 use lib.Dec.{leb, ltb, eqb}
 use lib.ListN.{length, replicate}
 use Rattle.octets.specs.Lists.{every}
@@ -21,9 +21,9 @@ unfoldable pub hexText : List ℕ → List ℕ
 hexText [] = []
 hexText (b ∷ t) = hexDigit 97 (b / 16) ∷ hexDigit 97 (b % 16) ∷ hexText t
 
--- the byte is a lower-case hex digit
+-- the byte is a lower-case hex digit: 0 to 9 or a to f
 abbrev pub isLowerHex : ℕ → Bool
-isLowerHex c = ltb (hexValue false c) 16
+isLowerHex c = leb 48 c && leb c 57 || leb 97 c && leb c 102
 
 -- "A presented handle is 40 lower-case hex digits; any other text matches no slot."
 unfoldable pub isHandleText : List ℕ → Bool

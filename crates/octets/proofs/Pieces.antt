@@ -1,7 +1,7 @@
 -- Laws of `indexOf` and `splitOn`: how a reader goes from one piece of a text to the next.
 --
 -- In order: `indexOf` at an index of the list, and its bound; `remaining`, the pieces from a position on, one piece
--- after the other; a text without the separator is one piece, and pieces joined by it are split again.
+-- after the other.
 -- Assumes nothing.
 use Prim.Native.Nat.{ℕ, zero, suc, _+_, _-_, _<_, _≤_}
 use mathlib.Core.Path.{_≡_, refl, sym, _∙_, ap}

@@ -7,6 +7,7 @@ use mathlib.Core.Bool.{Bool}
 use mathlib.Core.List.{List, [], _∷_}
 use lib.Bits.{bitAnd, bitOr}
 use lib.Dec.{eqb}
+use lib.ListN.{getD}
 use Rattle.octets.specs.Text.{bytes}
 use Rattle.scope.specs.declared.Scope.{Scope}
 
@@ -22,6 +23,10 @@ names =
     ∷ bytes "pump"
     ∷ bytes "solar"
     ∷ []
+
+-- the name at place k, counted from 0
+abbrev pub nameAt : ℕ → List ℕ
+nameAt k = getD names k []
 
 -- the set has the name at place k
 abbrev pub has : ℕ → ℕ → Bool

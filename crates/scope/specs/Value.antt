@@ -1,13 +1,12 @@
 -- A scope set as a text: "A scope value is names with one space between; order and repeats don't matter. Replies list
 -- names in table order."
-use Prim.Native.Nat.{ℕ, _*_, _/_, _%_}
-use mathlib.Core.Bool.{Bool, true, false, cond, not}
+use Prim.Native.Nat.{ℕ, suc, _*_}
+use mathlib.Core.Bool.{Bool, false, cond, not, _||_}
 use mathlib.Core.List.{List, [], _∷_, _++_}
 use lib.Bits.{bitOr}
 use lib.Dec.{eqb}
 use Rattle.octets.specs.Lists.{every, same, splitOn}
-use Rattle.scope.specs.Set.{names}
-use Rattle.scope.specs.declared.Scope.{Scope}
+use Rattle.scope.specs.Set.{names, has}
 use Rattle.scope.specs.declared.ScopeValue.{ScopeValue}
 use Rattle.scope.specs.declared.ScopeValue.the-variants.{Names, Invalid}
 
@@ -33,10 +32,10 @@ union (n ∷ ns) = bitOr (bitOf n) (union ns)
 unfoldable pub readScope : List ℕ → ScopeValue
 readScope v = let ns = splitOn 32 v in cond (every isName ns) (Names (record { bits = union ns })) Invalid
 
--- the names of a list that a set has, the first of which is the set's lowest bit
-unfoldable pub chosen : ℕ → List (List ℕ) → List (List ℕ)
-chosen set [] = []
-chosen set (n ∷ ns) = let r = chosen (set / 2) ns in cond (eqb (set % 2) 1) (n ∷ r) r
+-- the names of a list that a set has, the first of which stands at place k of the table
+unfoldable pub chosen : ℕ → ℕ → List (List ℕ) → List (List ℕ)
+chosen set k [] = []
+chosen set k (n ∷ ns) = let r = chosen set (suc k) ns in cond (has set k) (n ∷ r) r
 
 -- texts with one space between
 unfoldable pub spaced : List (List ℕ) → List ℕ
@@ -46,4 +45,13 @@ spaced (n ∷ m ∷ ms) = n ++ 32 ∷ spaced (m ∷ ms)
 
 -- a set as it is written
 unfoldable pub scopeText : ℕ → List ℕ
-scopeText set = spaced (chosen set names)
+scopeText set = spaced (chosen set 0 names)
+
+-- a text as it is written: the first of several as it stands, each other behind a space
+abbrev pub behind : Bool → List ℕ → List ℕ
+behind first n = cond first n (32 ∷ n)
+
+-- n is one of the texts: by this the laws say that order and repeats don't matter
+unfoldable pub isAmong : List ℕ → List (List ℕ) → Bool
+isAmong n [] = false
+isAmong n (t ∷ ts) = same t n || isAmong n ts
