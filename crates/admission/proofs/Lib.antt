@@ -1,0 +1,2 @@
+-- Laws of refusals 1 to 4.
+pub mod Admitting

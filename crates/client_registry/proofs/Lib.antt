@@ -1,0 +1,13 @@
+-- Laws of the definitions in specs/, for the proofs of this crate and of every crate above it.
+--
+-- Of use above: Fit, Clients, Entries and Lookup; Fields and Bytes for the bytes of a text.
+pub mod Bytes
+pub mod Fields
+pub mod Records
+pub mod Walk
+pub mod Fit
+pub mod Clients
+pub mod Entries
+pub mod Lookup
+pub mod Whole
+pub mod Examples

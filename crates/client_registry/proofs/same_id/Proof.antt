@@ -1,0 +1,74 @@
+-- The id field of a sound record lies within the bytes, and is the id, its length in front and zeros behind.
+use borrow.Author.Needs.{needs}
+use mathlib.Core.Path.{_∙_}
+use native.Mathlib.Omega.{arith}
+use Rattle.client_registry.proofs.Records.{record-room, same-ids}
+use Rattle.client_registry.proofs.same_id.Statement.{statement}
+use Rattle.client_registry.proofs.same_id.Tie as tie
+
+add-from : tie.Need-add-from
+add-from c =
+    let s = c .before in
+    omega (arith, record-room (s .args .b .now) (s .args .at) (s .pre .0))
+
+add-to : tie.Need-add-to
+add-to c =
+    let s = c .before in
+    omega (arith, record-room (s .args .b .now) (s .args .at) (s .pre .0))
+
+add-other-from : tie.Need-add-other-from
+add-other-from c =
+    let s = c .before in
+    omega (arith, record-room (s .args .b .now) (s .args .other) (s .pre .1))
+
+add-other-to : tie.Need-add-other-to
+add-other-to c =
+    let s = c .before in
+    omega (arith, record-room (s .args .b .now) (s .args .other) (s .pre .1))
+
+sub-equal : tie.Need-sub-equal
+sub-equal c = search needs
+
+part-equal-start : tie.Need-part-equal-start
+part-equal-start c = search needs
+
+part-equal-end : tie.Need-part-equal-end
+part-equal-end c =
+    let s = c .before in
+    omega (arith, record-room (s .args .b .now) (s .args .at) (s .pre .0))
+
+sub-equal-2 : tie.Need-sub-equal-2
+sub-equal-2 c = search needs
+
+part-equal-start-2 : tie.Need-part-equal-start-2
+part-equal-start-2 c = search needs
+
+part-equal-end-2 : tie.Need-part-equal-end-2
+part-equal-end-2 c =
+    let s = c .before .before in
+    omega (arith, record-room (s .args .b .now) (s .args .other) (s .pre .1))
+
+equal-requires : tie.Need-equal-requires
+equal-requires c κs = search needs
+
+returns : tie.Need-returns
+returns c =
+    let s = c .before .before .before .before in
+    c .equal .ensures ∙ same-ids (s .args .b .now) (s .args .at) (s .args .other) (s .pre .0) (s .pre .1)
+
+pub same-id-spec : {M : Type 1} → statement M
+same-id-spec =
+    tie.close
+    (tie.spec
+    add-from
+    add-to
+    add-other-from
+    add-other-to
+    sub-equal
+    part-equal-start
+    part-equal-end
+    sub-equal-2
+    part-equal-start-2
+    part-equal-end-2
+    equal-requires
+    returns)

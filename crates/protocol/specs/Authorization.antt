@@ -1,0 +1,117 @@
+-- The authorization endpoint: how a query is read, and the location that is written (RFC 6749, section 4.1).
+use Prim.Native.Nat.{ℕ}
+use mathlib.Core.Bool.{Bool, true, false, cond, not, _&&_, _||_}
+use mathlib.Core.List.{List, [], _∷_, _++_}
+use lib.Dec.{leb, ltb, eqb}
+use lib.ListN.{length}
+use Rattle.octets.specs.Text.{bytes}
+use Rattle.octets.specs.Lists.{every, inClass}
+use Rattle.encoding.specs.Hex.{hexText}
+use Rattle.form_coding.specs.Coding.{encode}
+use Rattle.form.specs.Content.{Value, missing, once, repeated, isWellFormedForm, formValue}
+use Rattle.client_registry.specs.Registry.{Client}
+use Rattle.client_registry.specs.Lookup.{numberOf, isKnown, clientAt}
+use Rattle.token_store.specs.Search.{any}
+use Rattle.protocol.specs.declared.ErrorWord.{ErrorWord}
+use Rattle.protocol.specs.declared.ErrorWord.the-variants.{InvalidRequest, InvalidScope, UnsupportedResponseType, AccessDenied}
+use Rattle.protocol.specs.declared.Refusal.{Refusal}
+use Rattle.protocol.specs.declared.Refusal.the-variants.{Unfit, ErrorPage, Redirect, Token, Failed}
+use Rattle.protocol.specs.declared.PageCause.the-variants.{Query as badQuery, Client as badClient, RedirectUri as badRedirect}
+use Rattle.protocol.specs.declared.Decision.{Decision}
+use Rattle.protocol.specs.declared.Decision.the-variants.{Grant, Refuse}
+use Rattle.protocol.specs.Answers.{wordText}
+use Rattle.protocol.specs.Requests.{isMissing, isRepeated, valueOf, isOnce, scopeAsked, fits, scopeGiven, Request, authorize, Reading, refused, asks}
+
+-- ---- reading the query
+
+-- refusal 5: "query over 4,096 or malformed"
+unfoldable pub isBadQuery : List ℕ → Bool
+isBadQuery query = ltb 4096 (length query) || not (isWellFormedForm query)
+
+-- the number of the client that the query names
+unfoldable pub queryClient : List Client → List ℕ → ℕ
+queryClient clients query = numberOf (valueOf (formValue query (bytes "client_id"))) clients
+
+-- refusal 6: "client_id repeated, missing or unknown; or redirect_uri repeated"
+unfoldable pub isBadClient : List Client → List ℕ → Bool
+isBadClient clients query =
+    let id = formValue query (bytes "client_id") in
+    isRepeated id || isMissing id || not (isKnown (valueOf id) clients) || isRepeated (formValue query (bytes "redirect_uri"))
+
+-- refusal 7: "redirect_uri given and not byte-equal to the registered one"
+unfoldable pub isBadRedirect : Client → List ℕ → Bool
+isBadRedirect client query =
+    let redirect = formValue query (bytes "redirect_uri") in
+    not (isMissing redirect) && not (isOnce (client .redirect) redirect)
+
+-- a state that may be sent back: at most 200 bytes of 20-7E
+unfoldable pub isSoundState : List ℕ → Bool
+isSoundState state = leb (length state) 200 && every (inClass 32 126 0) state
+
+-- "state over 200 bytes or outside 20-7E"
+unfoldable pub isBadState : Value → Bool
+isBadState missing = false
+isBadState (once state) = not (isSoundState state)
+isBadState repeated = true
+
+-- "`invalid_request` (response_type missing; response_type, scope or state repeated; state over 200 bytes or outside 20-7E)"
+unfoldable pub isInvalidRequest : List ℕ → Bool
+isInvalidRequest query =
+    let type = formValue query (bytes "response_type") in
+    isMissing type || isRepeated type || isRepeated (formValue query (bytes "scope")) || isBadState (formValue query (bytes "state"))
+
+-- "Response type `code` only."
+unfoldable pub isOtherType : List ℕ → Bool
+isOtherType query = not (isOnce (bytes "code") (formValue query (bytes "response_type")))
+
+-- "`invalid_scope` (bad form, unknown name, or beyond the client's set)"; "No scope means the client's set."
+unfoldable pub isInvalidScope : Client → List ℕ → Bool
+isInvalidScope client query = not (fits (scopeAsked (formValue query (bytes "scope"))) (client .scope))
+
+-- the first refusal that applies, or the request. "1 allows a farm number of 32 bits, any other number denies";
+-- "The code is bound when redirect_uri was given."
+unfoldable pub readAuthorization : List Client → List ℕ → ℕ → ℕ → Reading
+readAuthorization clients query decision farm =
+    let number = queryClient clients query in
+    let client = clientAt clients number in
+    let scope = scopeGiven (scopeAsked (formValue query (bytes "scope"))) (client .scope) in
+    let bound = not (isMissing (formValue query (bytes "redirect_uri"))) in
+    cond (isBadQuery query) (refused (ErrorPage badQuery))
+    (cond (isBadClient clients query) (refused (ErrorPage badClient))
+    (cond (isBadRedirect client query) (refused (ErrorPage badRedirect))
+    (cond (isInvalidRequest query) (refused (Redirect InvalidRequest))
+    (cond (isOtherType query) (refused (Redirect UnsupportedResponseType))
+    (cond (isInvalidScope client query) (refused (Redirect InvalidScope))
+    (cond (not (eqb decision 1)) (refused (Redirect AccessDenied))
+    (asks (authorize number farm scope bound))))))))
+
+-- ---- writing the location
+
+-- "then `?`, or `&` if it holds a `?`"
+unfoldable pub separator : List ℕ → List ℕ
+separator redirect = cond (any (λ b. eqb b 63) redirect) (bytes "&") (bytes "?")
+
+-- "then `&state=` and the state written as a form when it came once and sound"
+unfoldable pub stateText : Value → List ℕ
+stateText missing = []
+stateText (once state) = cond (isSoundState state) (bytes "&state=" ++ encode state) []
+stateText repeated = []
+
+-- "The location is the registered redirect, then `?`, or `&` if it holds a `?`, then `code=` or `error=`, then .. state"
+unfoldable pub location : List ℕ → List ℕ → Value → List ℕ
+location redirect parameter state = redirect ++ separator redirect ++ parameter ++ stateText state
+
+unfoldable pub codeParameter : List ℕ → List ℕ
+codeParameter handle = bytes "code=" ++ hexText handle
+
+unfoldable pub errorParameter : ErrorWord → List ℕ
+errorParameter word = bytes "error=" ++ wordText word
+
+-- what is written for a decision: "5 to 7 write no output"
+unfoldable pub locationText : List ℕ → Value → List ℕ → Decision → List ℕ
+locationText redirect state handle Grant = location redirect (codeParameter handle) state
+locationText redirect state handle (Refuse (Unfit i)) = []
+locationText redirect state handle (Refuse (ErrorPage p)) = []
+locationText redirect state handle (Refuse (Redirect word)) = location redirect (errorParameter word) state
+locationText redirect state handle (Refuse (Token word)) = []
+locationText redirect state handle (Refuse (Failed f)) = []

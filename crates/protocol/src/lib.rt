@@ -1,0 +1,89 @@
+// protocol: the answers of the three endpoints as types, and what the whole server must do as definitions (specs/).
+//
+// The definitions say, from raw bytes and numbers alone, what each endpoint answers, writes to the output and leaves
+// in the token store, for every input. The endpoints' crates are proved against them.
+
+// The error words of RFC 6749 that this server says.
+pub enum ErrorWord {
+    InvalidRequest,
+    InvalidClient,
+    InvalidGrant,
+    InvalidScope,
+    UnsupportedGrantType,
+    UnsupportedResponseType,
+    AccessDenied,
+    TemporarilyUnavailable,
+    ServerError,
+}
+
+// What a call is handed and may be unfit. A call with such an input changes nothing at all.
+pub enum Input {
+    Buffers,
+    Registry,
+    Store,
+    Clock,
+}
+
+// Why the user is shown an error page: nothing can be sent to a redirect address.
+pub enum PageCause {
+    Query,
+    Client,
+    RedirectUri,
+}
+
+// Why a sound token request fails all the same: no room in the store, or a handle that is in use.
+pub enum Failure {
+    NoRoom,
+    Clash,
+}
+
+// Why a call is refused. A redirect and a token refusal carry their error word.
+pub enum Refusal {
+    Unfit(Input),
+    ErrorPage(PageCause),
+    Redirect(ErrorWord),
+    Token(ErrorWord),
+    Failed(Failure),
+}
+
+// The scope that a request asks for: none, so all that may be had; a set; or a value that is no scope.
+pub enum ScopeAsked {
+    Everything,
+    Only(u8),
+    Unreadable,
+}
+
+// Whether a call was granted: a code at the authorization endpoint, tokens at the token endpoint.
+pub enum Decision {
+    Grant,
+    Refuse(Refusal),
+}
+
+// What the authorization endpoint answers: the decision, and how many bytes of location it wrote.
+pub struct AuthorizationAnswer {
+    pub decision: Decision,
+    pub length: usize,
+}
+
+// What the token endpoint answers: the decision, whether to send a WWW-Authenticate challenge, and how many bytes of
+// reply it wrote.
+pub struct TokenAnswer {
+    pub decision: Decision,
+    pub challenge: bool,
+    pub length: usize,
+}
+
+// What a live access token stands for, and how many seconds it has left.
+pub struct LiveToken {
+    pub client: u8,
+    pub farm: u32,
+    pub scope: u8,
+    pub left: u64,
+}
+
+// What the access token check answers. Not live is an answer and no refusal.
+pub enum CheckAnswer {
+    Refused(Refusal),
+    NotLive,
+    Live(LiveToken),
+}

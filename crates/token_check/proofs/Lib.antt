@@ -1,0 +1,2 @@
+-- Laws of the check's outcome.
+pub mod Checking

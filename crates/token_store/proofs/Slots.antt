@@ -1,0 +1,223 @@
+-- Laws of one slot (specs/Store.antt): its bytes, its fields and its tests.
+--
+-- In order: reading what was written; where each field lies in a slot's bytes; writing what was read, whose fields fit;
+-- the stores that write a slot; the free slot; a slot that is sought is in use.
+--
+-- Not here: the slots of a store (`Codec`), fitness (`Fits`).
+-- Assumes nothing.
+use mathlib.Core.Path.{_≡_, refl, sym, ap, _∙_, subst}
+use mathlib.Core.Bool.{Bool, true, false, not, _||_}
+use mathlib.Core.List.{List, [], _∷_, _++_, map, append-assoc, append-nil}
+use Prim.Native.Nat.{ℕ, suc, _+_, _^_, _≤_, _<_}
+use native.Mathlib.Omega.{arith}
+use lib.Dec.{lit<, eqb}
+use lib.ListN.{length, drop, getD, set, replicate, length-append, drop-of-length-le}
+use lib.Seq.{drop-cons, sets}
+use borrow.Author.Tests.{eqb-true, ne-eqb}
+use Rattle.octets.specs.Lists.{part, Bytes, same}
+use Rattle.octets.specs.BigEndian.{bigEndian, bigEndianFrom, bigEndianBytes}
+use Rattle.octets.proofs.Booleans.{and-left, and-right}
+use Rattle.octets.proofs.Lists.{take-bytes, drop-bytes, length-part}
+use Rattle.octets.proofs.Stores.{sets-append}
+use Rattle.octets.proofs.BigEndian.{be-one, be-bytes, bytes-be, be-bytes-one, be-bound, length-be-bytes}
+use Rattle.encoding.specs.declared.HandleText.{HandleText}
+use Rattle.token_store.specs.Layout.{handleSize, farmSize, expirySize, fieldSizes, slotSize, atHandle, atClient, atFarm, atScope, atExpiry}
+use Rattle.token_store.specs.Store.{SlotFits, cut, concat, fieldsOf, ofFields, encodeSlot, decodeSlot, freeSlot, kindCode, kindBoundCode, isUsed, isLive, isVacant, holds, isSought, soughtKey, shows}
+use Rattle.token_store.specs.declared.Slot.{Slot}
+use Rattle.token_store.specs.declared.Sought.{Sought}
+use Rattle.token_store.specs.declared.Sought.the-variants.{Code, Access, Refresh}
+use Rattle.token_store.proofs.Tables.{cut-from, cut-concat, concat-cut}
+
+-- ---- reading what was written
+
+pub slot-back : (s : Slot) → SlotFits s → decodeSlot (encodeSlot s) ≡ s
+unfolding decodeSlot encodeSlot
+slot-back s h =
+    let w : map length (fieldsOf s) ≡ fieldSizes = simp (length-be-bytes, h .handle) in
+    let e : cut fieldSizes (concat (fieldsOf s)) ≡ fieldsOf s =
+    subst (λ (ws : List ℕ). cut ws (concat (fieldsOf s)) ≡ fieldsOf s) w (cut-concat (fieldsOf s))
+    in
+    ap ofFields e
+    ∙ λ j. record {
+      kind = be-bytes 1 (s .kind) (h .kind) j;
+      handle = s .handle;
+      client = be-bytes 1 (s .client) (h .client) j;
+      farm = be-bytes farmSize (s .farm) (h .farm) j;
+      scope = be-bytes 1 (s .scope) (h .scope) j;
+      expiry = be-bytes expirySize (s .expiry) (h .expiry) j;
+    }
+
+pub length-slot : (s : Slot) → SlotFits s → length (encodeSlot s) ≡ slotSize
+unfolding encodeSlot concat
+length-slot s h = simp (length-append, length-be-bytes, h .handle) (omega arith)
+
+-- ---- where the fields lie
+
+-- a slot's bytes cut into its fields, each by its place
+abbrev fieldsIn : List ℕ → List (List ℕ)
+fieldsIn l =
+    part l 0 1
+    ∷ part l atHandle handleSize
+    ∷ part l atClient 1
+    ∷ part l atFarm farmSize
+    ∷ part l atScope 1
+    ∷ part l atExpiry expirySize
+    ∷ []
+
+cut-fields : (l : List ℕ) → cut fieldSizes l ≡ fieldsIn l
+cut-fields l = cut-from fieldSizes l 0
+
+slot-fields : (l : List ℕ) → decodeSlot l ≡ ofFields (fieldsIn l)
+unfolding decodeSlot
+slot-fields l = ap ofFields (cut-fields l)
+
+byte-in : (l : List ℕ) (k : ℕ) → k < length l → bigEndian (part l k 1) ≡ getD l k 0
+byte-in l k h = rw (drop-cons l k 0 h) (be-one (getD l k 0))
+
+module _ (l : List ℕ) (size : length l ≡ slotSize) where
+  pub kind-in : decodeSlot l .kind ≡ getD l 0 0
+  kind-in = ap (λ (s : Slot). s .kind) (slot-fields l) ∙ byte-in l 0 (omega arith)
+
+  pub handle-in : decodeSlot l .handle ≡ part l atHandle handleSize
+  handle-in = ap (λ (s : Slot). s .handle) (slot-fields l)
+
+  pub client-in : decodeSlot l .client ≡ getD l atClient 0
+  client-in = ap (λ (s : Slot). s .client) (slot-fields l) ∙ byte-in l atClient (omega arith)
+
+  pub farm-in : decodeSlot l .farm ≡ bigEndian (part l atFarm farmSize)
+  farm-in = ap (λ (s : Slot). s .farm) (slot-fields l)
+
+  pub scope-in : decodeSlot l .scope ≡ getD l atScope 0
+  scope-in = ap (λ (s : Slot). s .scope) (slot-fields l) ∙ byte-in l atScope (omega arith)
+
+  pub expiry-in : decodeSlot l .expiry ≡ bigEndian (part l atExpiry expirySize)
+  expiry-in = ap (λ (s : Slot). s .expiry) (slot-fields l)
+
+-- ---- writing what was read
+
+module _ (l : List ℕ) (size : length l ≡ slotSize) (bytes : Bytes l) where
+  field-length : (k n : ℕ) → k + n ≤ slotSize → length (part l k n) ≡ n
+  field-length k n h = length-part l k n (omega arith)
+
+  field-bytes : (k n : ℕ) → Bytes (part l k n)
+  field-bytes k n = take-bytes n (drop k l) (drop-bytes k l bytes)
+
+  field-forth : (k n : ℕ) → k + n ≤ slotSize → bigEndianBytes n (bigEndian (part l k n)) ≡ part l k n
+  field-forth k n h = bytes-be n (part l k n) (field-length k n h) (field-bytes k n)
+
+  field-fits : (k n : ℕ) → k + n ≤ slotSize → bigEndian (part l k n) < 256 ^ n
+  field-fits k n h = rw (field-length k n h) at (be-bound (part l k n) (field-bytes k n))
+
+  pub slot-forth : encodeSlot (decodeSlot l) ≡ l
+  unfolding encodeSlot
+  slot-forth =
+      let e : fieldsOf (ofFields (fieldsIn l)) ≡ fieldsIn l =
+      λ j. field-forth 0 1 (omega arith) j
+      ∷ part l atHandle handleSize
+      ∷ field-forth atClient 1 (omega arith) j
+      ∷ field-forth atFarm farmSize (omega arith) j
+      ∷ field-forth atScope 1 (omega arith) j
+      ∷ field-forth atExpiry expirySize (omega arith) j
+      ∷ []
+      in
+      ap (λ (s : Slot). concat (fieldsOf s)) (slot-fields l) ∙ ap concat (e ∙ sym (cut-fields l))
+      ∙ concat-cut fieldSizes l (drop-of-length-le l {i = slotSize} (omega arith))
+
+  -- what is read fits
+  pub read-fits : SlotFits (decodeSlot l)
+  read-fits = subst SlotFits (sym (slot-fields l)) (record {
+    kind = field-fits 0 1 (omega arith);
+    handle = field-length atHandle handleSize (omega arith);
+    client = field-fits atClient 1 (omega arith);
+    farm = field-fits atFarm farmSize (omega arith);
+    scope = field-fits atScope 1 (omega arith);
+    expiry = field-fits atExpiry expirySize (omega arith);
+  })
+
+-- ---- the stores that write a slot are one store of the whole slot
+
+glue : (l : List ℕ) (i j : ℕ) (u v : List ℕ) → j ≡ i + length u → sets (sets l i u) j v ≡ sets l i (u ++ v)
+glue l i j u v e = rw e (sets-append l i u v)
+
+-- u₁ to u₄ are what is stored up to the next number: kind and handle, the client, the farm, the scope
+module _ (b : List ℕ) (at : ℕ) (s : Slot) (fits : SlotFits s) (l₁ l₂ l₃ : List ℕ) where
+  pub store-slot :
+      l₁ ≡ sets (set b at (s .kind)) (at + atHandle) (s .handle)
+      → l₂ ≡ sets (set l₁ (at + atClient) (s .client)) (at + atFarm) (bigEndianBytes farmSize (s .farm))
+      → l₃ ≡ sets (set l₂ (at + atScope) (s .scope)) (at + atExpiry) (bigEndianBytes expirySize (s .expiry))
+      → l₃ ≡ sets b at (encodeSlot s)
+  unfolding encodeSlot concat
+  store-slot e₁ e₂ e₃ =
+      let f : List ℕ = bigEndianBytes farmSize (s .farm) in
+      let x : List ℕ = bigEndianBytes expirySize (s .expiry) in
+      let u₁ : List ℕ = s .kind ∷ s .handle in
+      let u₂ : List ℕ = u₁ ++ (s .client ∷ []) in
+      let u₃ : List ℕ = u₂ ++ f in
+      let u₄ : List ℕ = u₃ ++ (s .scope ∷ []) in
+      let h : length (s .handle) ≡ handleSize = fits .handle in
+      let n₁ : length u₁ ≡ atClient = omega arith in
+      let n₂ : length u₂ ≡ atFarm = length-append u₁ (s .client ∷ []) ∙ omega arith in
+      let n₃ : length u₃ ≡ atScope = length-append u₂ f ∙ omega (arith, length-be-bytes farmSize (s .farm)) in
+      let n₄ : length u₄ ≡ atExpiry = length-append u₃ (s .scope ∷ []) ∙ omega arith in
+      let p₁ : l₁ ≡ sets b at u₁ = e₁ ∙ glue b at (at + atHandle) (s .kind ∷ []) (s .handle) refl in
+      let p₂ : l₂ ≡ sets b at u₃ =
+      e₂ ∙ rw (p₁, glue b at (at + atClient) u₁ (s .client ∷ []) (omega arith)) (glue b at (at + atFarm) u₂ f (omega arith))
+      in
+      let p₃ : l₃ ≡ sets b at (u₄ ++ x) =
+      e₃ ∙ rw (p₂, glue b at (at + atScope) u₃ (s .scope ∷ []) (omega arith)) (glue b at (at + atExpiry) u₄ x (omega arith))
+      in
+      p₃
+      ∙ rw (be-bytes-one (s .kind) (fits .kind), be-bytes-one (s .client) (fits .client), be-bytes-one (s .scope) (fits .scope))
+      (simp (append-assoc, append-nil))
+
+-- ---- the free slot
+
+pub free-read : decodeSlot (replicate slotSize 0) ≡ freeSlot
+unfolding decodeSlot cut freeSlot bigEndianFrom
+free-read = refl
+
+pub free-bytes : encodeSlot freeSlot ≡ replicate slotSize 0
+unfolding encodeSlot concat freeSlot bigEndianBytes
+free-bytes = refl
+
+pub free-fits : SlotFits freeSlot
+unfolding freeSlot
+free-fits = record { kind = lit< tt; handle = refl; client = lit< tt; farm = lit< tt; scope = lit< tt; expiry = lit< tt }
+
+pub free-unused : isUsed freeSlot ≡ false
+unfolding freeSlot
+free-unused = refl
+
+pub free-dead : (t : ℕ) → isLive t freeSlot ≡ false
+unfolding freeSlot
+free-dead t = refl
+
+pub free-vacant : (t : ℕ) → isVacant t freeSlot ≡ true
+unfolding freeSlot
+free-vacant t = refl
+
+pub free-unsought : (q : Sought) → isSought q freeSlot ≡ false
+unfolding freeSlot
+free-unsought Code = refl
+free-unsought Access = refl
+free-unsought Refresh = refl
+
+-- ---- a slot that is sought is in use
+
+used : (k n : ℕ) → eqb k (suc n) ≡ true → not (eqb k 0) ≡ true
+used k n e = let q = eqb-true k (suc n) e in rw (ne-eqb k 0 (λ z. omega arith))
+
+pub sought-used : (q : Sought) (s : Slot) → isSought q s ≡ true → isUsed s ≡ true
+sought-used Code s e = by (eqb (s .kind) kindCode) refl e
+  where
+    by : (t : Bool) → eqb (s .kind) kindCode ≡ t → (t || eqb (s .kind) kindBoundCode) ≡ true → isUsed s ≡ true
+    by true q f = used (s .kind) 0 q
+    by false q f = used (s .kind) 1 f
+sought-used Access s e = used (s .kind) 2 e
+sought-used Refresh s e = used (s .kind) 3 e
+
+-- a slot that a look-up takes is in use and has the handle presented
+pub key-holds : (q : Sought) (p : HandleText) (s : Slot) → soughtKey q p s ≡ true → holds (p .bytes) s ≡ true
+key-holds q p s e =
+    let shown = and-right (isSought q s) (shows p s) e in
+    rw (sought-used q s (and-left (isSought q s) (shows p s) e)) (and-right (p .valid) (same (p .bytes) (s .handle)) shown)

@@ -1,0 +1,24 @@
+-- The byte lies where the layout says.
+use borrow.Author.Needs.{needs}
+use mathlib.Core.Path.{sym}
+use Rattle.token_store.proofs.Codec.{client-at}
+use Rattle.token_store.proofs.fields.client_of.Statement.{statement}
+use Rattle.token_store.proofs.fields.client_of.Tie as tie
+
+slot-start-requires : tie.Need-slot-start-requires
+slot-start-requires c κs = search needs
+
+add-result : tie.Need-add-result
+add-result c = search needs
+
+shared-slice-read-result : tie.Need-shared-slice-read-result
+shared-slice-read-result c = search needs
+
+returns : tie.Need-returns
+returns c =
+    let s = c .before .before .before in
+    rw (c .before .slot-start .ensures) (sym (client-at (s .args .store .now) (s .args .i) (s .pre .0) (s .pre .1)))
+
+pub client-of-spec : {M : Type 1} → statement M
+client-of-spec =
+    tie.close (tie.spec slot-start-requires add-result shared-slice-read-result returns)

@@ -1,0 +1,23 @@
+-- The number lies where the layout says.
+use borrow.Author.Needs.{needs}
+use mathlib.Core.Path.{sym, _∙_}
+use Rattle.token_store.proofs.Codec.{farm-at}
+use Rattle.token_store.proofs.fields.farm_of.Statement.{statement}
+use Rattle.token_store.proofs.fields.farm_of.Tie as tie
+
+slot-start-requires : tie.Need-slot-start-requires
+slot-start-requires c κs = search needs
+
+add-read-be32 : tie.Need-add-read-be32
+add-read-be32 c = search needs
+
+read-be32-requires : tie.Need-read-be32-requires
+read-be32-requires c κs = search needs
+
+returns : tie.Need-returns
+returns c =
+    let s = c .before .before .before in
+    c .read-be32 .ensures ∙ rw (c .before .slot-start .ensures) (sym (farm-at (s .args .store .now) (s .args .i) (s .pre .0) (s .pre .1)))
+
+pub farm-of-spec : {M : Type 1} → statement M
+farm-of-spec = tie.close (tie.spec slot-start-requires add-read-be32 read-be32-requires returns)

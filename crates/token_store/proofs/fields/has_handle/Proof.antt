@@ -1,0 +1,53 @@
+-- The handle lies where the layout says.
+use borrow.Author.Needs.{needs}
+use Prim.Native.Nat.{ℕ, _+_, _-_}
+use mathlib.Core.Path.{_≡_, sym, ap, _∙_}
+use native.Mathlib.Omega.{arith}
+use Rattle.octets.specs.Lists.{same}
+use Rattle.token_store.specs.Layout.{handleSize, atHandle}
+use Rattle.token_store.proofs.Codec.{handle-at}
+use Rattle.token_store.proofs.fields.has_handle.Statement.{statement}
+use Rattle.token_store.proofs.fields.has_handle.Tie as tie
+
+slot-start-requires : tie.Need-slot-start-requires
+slot-start-requires c κs = search needs
+
+add-at : tie.Need-add-at
+add-at c = search needs
+
+add-end : tie.Need-add-end
+add-end c = search needs
+
+sub-equal : tie.Need-sub-equal
+sub-equal c = search needs
+
+part-equal-start : tie.Need-part-equal-start
+part-equal-start c = search needs
+
+part-equal-end : tie.Need-part-equal-end
+part-equal-end c = search needs
+
+equal-requires : tie.Need-equal-requires
+equal-requires c κs = search needs
+
+returns : tie.Need-returns
+returns c =
+    let s = c .before .before .before .before .before in
+    let at : ℕ = c .before .before .slot-start .result + atHandle in
+    let n : at + handleSize - at ≡ handleSize = omega arith in
+    c .equal .ensures
+    ∙ rw (n, c .before .before .slot-start .ensures)
+    (ap (same (s .args .handle .now)) (sym (handle-at (s .args .store .now) (s .args .i) (s .pre .0) (s .pre .1))))
+
+pub has-handle-spec : {M : Type 1} → statement M
+has-handle-spec =
+    tie.close
+    (tie.spec
+    slot-start-requires
+    add-at
+    add-end
+    sub-equal
+    part-equal-start
+    part-equal-end
+    equal-requires
+    returns)

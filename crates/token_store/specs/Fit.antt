@@ -1,0 +1,22 @@
+-- Which bytes are a store: every call is refused on any others.
+use Prim.Native.Nat.{ℕ}
+use mathlib.Core.Bool.{Bool, cond, not, _&&_}
+use mathlib.Core.List.{List}
+use lib.Dec.{eqb, leb, ltb}
+use lib.ListN.{length}
+use Rattle.octets.specs.Lists.{every, isZero}
+use Rattle.token_store.specs.Layout.{storeSize, latestTime}
+use Rattle.token_store.specs.Store.{kindRefresh, isUsed, encodeSlot, decode}
+use Rattle.token_store.specs.declared.Slot.{Slot}
+
+-- "Kind 0 is free, body all zero"; "A slot in use has a client number in the register and a scope set that is not
+-- empty." Nothing else is looked at: handles may repeat, and farm and expiry are any numbers.
+unfoldable pub fitSlot : ℕ → Slot → Bool
+fitSlot clients s =
+    cond (isUsed s)
+    (leb (s .kind) kindRefresh && ltb (s .client) clients && not (eqb (s .scope) 0))
+    (every isZero (encodeSlot s))
+
+-- "the mark, 8 bytes, big-endian, at most 2^40"
+unfoldable pub fitStore : ℕ → List ℕ → Bool
+fitStore clients b = eqb (length b) storeSize && leb (decode b .time) latestTime && every (fitSlot clients) (decode b .slots)

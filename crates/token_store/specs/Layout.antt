@@ -1,0 +1,57 @@
+-- Where everything lies in a store. No other file of specs/ or proofs/ names one of these numbers.
+--
+-- "Ledger: 17,928 bytes. First the mark, 8 bytes, big-endian, at most 2^40; then 512 slots of 35: kind, handle 20,
+-- client number 1, farm 4, scope set 1, expiry 8 (farm and expiry big-endian)."
+use Prim.Native.Nat.{ℕ, _+_, _*_, _^_}
+use mathlib.Core.List.{List, [], _∷_}
+
+-- the bytes of the latest time seen, which stands first
+abbrev pub timeSize : ℕ
+timeSize = 8
+
+-- no clock and no store shows a later time
+abbrev pub latestTime : ℕ
+latestTime = 2 ^ 40
+
+abbrev pub slotCount : ℕ
+slotCount = 512
+
+-- the widths of a slot's fields that are wider than a byte
+abbrev pub handleSize : ℕ
+handleSize = 20
+
+abbrev pub farmSize : ℕ
+farmSize = 4
+
+abbrev pub expirySize : ℕ
+expirySize = 8
+
+-- kind, handle, client, farm, scope, expiry
+abbrev pub fieldSizes : List ℕ
+fieldSizes = 1 ∷ handleSize ∷ 1 ∷ farmSize ∷ 1 ∷ expirySize ∷ []
+
+-- where each field starts in a slot; the kind stands first
+abbrev pub atHandle : ℕ
+atHandle = 1
+
+abbrev pub atClient : ℕ
+atClient = atHandle + handleSize
+
+abbrev pub atFarm : ℕ
+atFarm = atClient + 1
+
+abbrev pub atScope : ℕ
+atScope = atFarm + farmSize
+
+abbrev pub atExpiry : ℕ
+atExpiry = atScope + 1
+
+abbrev pub slotSize : ℕ
+slotSize = atExpiry + expirySize
+
+abbrev pub storeSize : ℕ
+storeSize = timeSize + slotCount * slotSize
+
+-- where slot i starts in the store
+abbrev pub slotStart : ℕ → ℕ
+slotStart i = timeSize + i * slotSize

@@ -1,0 +1,186 @@
+-- A store as the latest time seen and a list of slots: what a slot is, the tests of it, and how a store's bytes are
+-- read and written. A store is document 01's ledger, and its time the mark.
+use Prim.Native.Nat.{ℕ, zero, suc, _^_, _<_, max}
+use mathlib.Core.Path.{_≡_}
+use mathlib.Core.Bool.{Bool, cond, not, _&&_, _||_}
+use mathlib.Core.List.{List, [], _∷_, _++_, map}
+use lib.Dec.{eqb, ltb}
+use lib.ListN.{length, take, drop, getD, set, replicate}
+use Rattle.octets.specs.Lists.{part, same}
+use Rattle.octets.specs.BigEndian.{bigEndian, bigEndianBytes}
+use Rattle.encoding.specs.declared.HandleText.{HandleText}
+use Rattle.token_store.specs.Layout.{timeSize, slotCount, handleSize, farmSize, expirySize, fieldSizes, slotSize, slotStart}
+use Rattle.token_store.specs.declared.Slot.{Slot}
+use Rattle.token_store.specs.declared.Sought.{Sought}
+use Rattle.token_store.specs.declared.Sought.the-variants.{Code, Access, Refresh}
+
+pub record Store : Type 0 where
+  pub time : ℕ
+  pub slots : List Slot
+
+-- ---- kinds: "Kind 0 is free, body all zero; 1 code without bound redirect; 2 code with bound redirect; 3 access; 4 refresh."
+
+abbrev pub kindFree : ℕ
+kindFree = 0
+
+abbrev pub kindCode : ℕ
+kindCode = 1
+
+abbrev pub kindBoundCode : ℕ
+kindBoundCode = 2
+
+abbrev pub kindAccess : ℕ
+kindAccess = 3
+
+abbrev pub kindRefresh : ℕ
+kindRefresh = 4
+
+abbrev pub isUsed : Slot → Bool
+isUsed s = not (eqb (s .kind) kindFree)
+
+-- "for a code, 1 or 2"
+abbrev pub isCode : Slot → Bool
+isCode s = eqb (s .kind) kindCode || eqb (s .kind) kindBoundCode
+
+abbrev pub isBoundCode : Slot → Bool
+isBoundCode s = eqb (s .kind) kindBoundCode
+
+abbrev pub isAccess : Slot → Bool
+isAccess s = eqb (s .kind) kindAccess
+
+abbrev pub isRefresh : Slot → Bool
+isRefresh s = eqb (s .kind) kindRefresh
+
+unfoldable pub freeSlot : Slot
+freeSlot = record { kind = kindFree; handle = replicate handleSize 0; client = 0; farm = 0; scope = 0; expiry = 0 }
+
+-- ---- time: "Something is live while T is below its expiry."
+
+-- "Expiry is T plus 600 (code), 3,600 (access), 2,592,000 (refresh)."
+abbrev pub lifetimeOf : ℕ → ℕ
+lifetimeOf kind =
+    cond (eqb kind kindCode || eqb kind kindBoundCode) 600
+    (cond (eqb kind kindAccess) 3600 (cond (eqb kind kindRefresh) 2592000 0))
+
+abbrev pub isLive : ℕ → Slot → Bool
+isLive t s = isUsed s && ltb t (s .expiry)
+
+-- "free or has run out at T"
+abbrev pub isVacant : ℕ → Slot → Bool
+isVacant t s = not (isLive t s)
+
+-- ---- handles: "A look-up takes the lowest slot of the right kind (for a code, 1 or 2) and handle"
+
+-- "equal to the handle of any slot in use, run out or not"
+abbrev pub holds : List ℕ → Slot → Bool
+holds h s = isUsed s && same h (s .handle)
+
+-- the slot has the handle that was presented: "any other text matches no slot"
+abbrev pub shows : HandleText → Slot → Bool
+shows p s = p .valid && same (p .bytes) (s .handle)
+
+abbrev pub codeKey : HandleText → Slot → Bool
+codeKey p s = isCode s && shows p s
+
+abbrev pub accessKey : HandleText → Slot → Bool
+accessKey p s = isAccess s && shows p s
+
+abbrev pub refreshKey : HandleText → Slot → Bool
+refreshKey p s = isRefresh s && shows p s
+
+-- the same three by what is sought
+abbrev pub isSought : Sought → Slot → Bool
+isSought Code s = isCode s
+isSought Access s = isAccess s
+isSought Refresh s = isRefresh s
+
+abbrev pub soughtKey : Sought → HandleText → Slot → Bool
+soughtKey q p s = isSought q s && shows p s
+
+-- ---- one slot of a store, and the store with another slot or time
+
+abbrev pub slotOf : Store → ℕ → Slot
+slotOf g i = getD (g .slots) i freeSlot
+
+abbrev pub withSlot : Store → ℕ → Slot → Store
+withSlot g i s = record { time = g .time; slots = set (g .slots) i s }
+
+abbrev pub withTime : Store → ℕ → Store
+withTime g t = record { time = t; slots = g .slots }
+
+-- "A call's time T is the larger of clock and mark."
+abbrev pub callTime : Store → ℕ → ℕ
+callTime g clock = max clock (g .time)
+
+-- "A fresh ledger is all zero."
+unfoldable pub fresh : Store
+fresh = record { time = 0; slots = replicate slotCount freeSlot }
+
+-- ---- bytes
+
+-- a list cut into pieces of the given lengths, and pieces joined
+unfoldable pub cut : List ℕ → List ℕ → List (List ℕ)
+cut [] l = []
+cut (w ∷ ws) l = take w l ∷ cut ws (drop w l)
+
+unfoldable pub concat : List (List ℕ) → List ℕ
+concat [] = []
+concat (f ∷ fs) = f ++ concat fs
+
+-- f 0, f 1, .., f (n - 1)
+unfoldable pub tabulate : {A : Type 0} → ℕ → (ℕ → A) → List A
+tabulate zero f = []
+tabulate (suc n) f = tabulate n f ++ (f n ∷ [])
+
+-- a slot's fields, each in its bytes
+abbrev pub fieldsOf : Slot → List (List ℕ)
+fieldsOf s =
+    bigEndianBytes 1 (s .kind)
+    ∷ s .handle
+    ∷ bigEndianBytes 1 (s .client)
+    ∷ bigEndianBytes farmSize (s .farm)
+    ∷ bigEndianBytes 1 (s .scope)
+    ∷ bigEndianBytes expirySize (s .expiry)
+    ∷ []
+
+abbrev pub ofFields : List (List ℕ) → Slot
+ofFields fs = record {
+  kind = bigEndian (getD fs 0 []);
+  handle = getD fs 1 [];
+  client = bigEndian (getD fs 2 []);
+  farm = bigEndian (getD fs 3 []);
+  scope = bigEndian (getD fs 4 []);
+  expiry = bigEndian (getD fs 5 []);
+}
+
+-- the fields fit their widths
+pub record SlotFits (s : Slot) : Type 0 where
+  pub kind : s .kind < 256 ^ 1
+  pub handle : length (s .handle) ≡ handleSize
+  pub client : s .client < 256 ^ 1
+  pub farm : s .farm < 256 ^ farmSize
+  pub scope : s .scope < 256 ^ 1
+  pub expiry : s .expiry < 256 ^ expirySize
+
+-- so do those of every slot; past the list's end the slot is free
+abbrev pub SlotsFit : List Slot → Type 0
+SlotsFit l = (i : ℕ) → SlotFits (getD l i freeSlot)
+
+unfoldable pub encodeSlot : Slot → List ℕ
+encodeSlot s = concat (fieldsOf s)
+
+unfoldable pub decodeSlot : List ℕ → Slot
+decodeSlot l = ofFields (cut fieldSizes l)
+
+-- the bytes of slot i
+abbrev pub slotBytes : List ℕ → ℕ → List ℕ
+slotBytes b i = part b (slotStart i) slotSize
+
+unfoldable pub encode : Store → List ℕ
+encode g = bigEndianBytes timeSize (g .time) ++ concat (map encodeSlot (g .slots))
+
+unfoldable pub decode : List ℕ → Store
+decode b = record {
+  time = bigEndian (part b 0 timeSize);
+  slots = tabulate slotCount (λ i. decodeSlot (slotBytes b i));
+}

@@ -1,0 +1,43 @@
+// Whether bytes are a store.
+use crate::fields::slot_start;
+use crate::layout;
+use crate::time::time_of;
+ghost use mathlib.Core.Path.{_≡_};
+ghost use lib.ListN.{length};
+ghost use Rattle.token_store.specs.Layout.{slotSize};
+ghost use Rattle.token_store.specs.Store.{decodeSlot};
+ghost use Rattle.token_store.specs.Fit.{fitSlot, fitStore};
+
+// Whether the bytes of a slot are those of a free one, all zero, or of one in use for one of so many clients.
+fn fit_slot(slot: &[u8], clients: u8) -> bool
+    requires { ⌜ length (now slot) ≡ slotSize ⌝ }
+    ensures { λ r. ⌜ r ≡ fitSlot clients (decodeSlot (now (slot .entry))) ⌝ }
+{
+    let kind = slot[0];
+    if kind == layout::KIND_FREE {
+        return octets::all_zero(slot);
+    }
+    (kind <= layout::KIND_REFRESH)
+        & (slot[layout::AT_CLIENT] < clients)
+        & (slot[layout::AT_SCOPE] != 0)
+}
+
+// Whether the bytes are a store for so many clients. Nothing is asked of them.
+pub fn fit(store: &[u8], clients: u8) -> bool
+    ensures { λ r. ⌜ r ≡ fitStore clients (now (store .entry)) ⌝ }
+{
+    if store.len() != layout::STORE_SIZE {
+        return false;
+    }
+    if layout::LATEST_TIME < time_of(store) {
+        return false;
+    }
+    for i in 0..layout::SLOT_COUNT {
+        let at = slot_start(i);
+        let end = at + layout::SLOT_SIZE;
+        if !fit_slot(&store[at..end], clients) {
+            return false;
+        }
+    }
+    true
+}
