@@ -1,2 +1,3 @@
--- The starred cases of document 01, and examples of the definitions in specs/ by computation.
+-- The definitions in specs/, by computation: the starred cases of document 01, and the rest of its visit.
 pub mod Starred
+pub mod Visit

@@ -31,12 +31,12 @@ use Rattle.protocol.specs.Granting.{refuseIf, decide, decideReading, gra
 -- ---- what the definitions say
 
 -- n numbers from k on
-countUp : ℕ → ℕ → List ℕ
+unfoldable pub countUp : ℕ → ℕ → List ℕ
 countUp zero k = []
 countUp (suc n) k = k ∷ countUp n (suc k)
 
 -- "response_type=code&.. (document 003)"
-rfcQuery : List ℕ
+unfoldable pub rfcQuery : List ℕ
 rfcQuery = bytes "response_type=code&client_id=s6BhdRkqt3&state=xyz&redirect_uri=https%3A%2F%2Fclient%2Eexample%2Ecom%2Fcb"
 
 -- the location for a query at clock 1000 and a fresh store: "random 00 to 13 hex"
@@ -85,7 +85,7 @@ cases =
     ∷ record { said = locationFor (bytes "response_type=code&client_id=barnapp") 0; paper = bytes "https://barn.example/r?x=1&error=access_denied" }
     ∷ []
 
-pub asTheyStand : List Case → Bool
+unfoldable pub asTheyStand : List Case → Bool
 asTheyStand cs = every (λ c. same (c .said) (c .paper)) cs
 
 -- every starred case stands as the paper has it
