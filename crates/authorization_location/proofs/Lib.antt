@@ -1,0 +1,2 @@
+-- Laws of the location.
+pub mod Location

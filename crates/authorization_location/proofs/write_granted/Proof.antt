@@ -1,0 +1,39 @@
+-- The address, the code and the state stand one behind the other.
+use borrow.Author.Needs.{needs}
+use Rattle.form.specs.Places.{viewOf}
+use Rattle.protocol.specs.Authorization.{codeParameter}
+use Rattle.authorization_location.proofs.Location.{Written, redirect-next, code-next, located}
+use Rattle.authorization_location.proofs.write_granted.Statement.{statement}
+use Rattle.authorization_location.proofs.write_granted.Tie as tie
+
+write-redirect-requires : tie.Need-write-redirect-requires
+write-redirect-requires c κs = search needs
+
+write-code-requires : tie.Need-write-code-requires
+write-code-requires c κs = search needs
+
+write-state-requires : tie.Need-write-state-requires
+write-state-requires c κs = search needs
+
+same-length : tie.Need-same-length
+same-length c = search needs
+
+returns : tie.Need-returns
+returns c =
+    let start = c .before .before .before .before .before .before .before .before .before .before .before .before .before .before .before .before in
+    let a = start .args in
+    let redirect = a .redirect .now in
+    let handle = a .handle .now in
+    let address = c .before .before .before .before .before .before .before .before .before .before .write-redirect in
+    let code = c .before .before .before .before .before .before .write-code in
+    let state = c .before .before .write-state in
+    located (a .output .now) _ _ _ (address .result) (code .result) (state .result) redirect (codeParameter handle)
+    (viewOf (a .query .now) (a .state))
+    (record { next-is = redirect-next redirect (address .result) (address .ensures .0); bytes-are = address .ensures .1 })
+    (record { next-is = code-next handle (start .pre .2) (address .result) (code .result) (code .ensures .0); bytes-are = code .ensures .1 })
+    (record { next-is = state .ensures .0; bytes-are = state .ensures .1 })
+
+pub write-granted-spec : {M : Type 1} → statement M
+write-granted-spec =
+    tie.close
+    (tie.spec write-redirect-requires write-code-requires write-state-requires same-length returns)

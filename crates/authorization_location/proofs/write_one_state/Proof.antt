@@ -1,0 +1,62 @@
+-- A sound state is written behind its name, in at most three bytes to each of its own.
+use borrow.Author.Needs.{needs}
+use borrow.Author.Tests.{not-true, not-false}
+use mathlib.Core.Path.{_≡_, sym, _∙_}
+use mathlib.Core.Bool.{true, false}
+use native.Mathlib.Omega.{arith}
+use Rattle.protocol.specs.Authorization.{isSoundState}
+use Rattle.authorization_location.proofs.Location.{sound-length, state-unsound, state-sound}
+use Rattle.authorization_location.proofs.write_one_state.Statement.{statement}
+use Rattle.authorization_location.proofs.write_one_state.Tie as tie
+
+unsound : (c : tie.Then1) → isSoundState (c .before .before .before .before .args .state .now) ≡ false
+unsound c = sym (c .before .is-sound-state .ensures) ∙ not-true _ (c .if1 .taken)
+
+sound : (c : tie.Else1) → isSoundState (c .before .before .before .before .args .state .now) ≡ true
+sound c = sym (c .before .is-sound-state .ensures) ∙ not-false _ (c .if1 .left)
+
+is-sound-state-requires : tie.Need-is-sound-state-requires
+is-sound-state-requires c κs = search needs
+
+returns : tie.Need-returns
+returns c =
+    let a = c .before .before .before .before .args in
+    let w = state-unsound (a .output .now) (a .at) (a .state .now) (unsound c) in
+    (w .next-is, w .bytes-are)
+
+slice-aggregate-copy-at : tie.Need-slice-aggregate-copy-at
+slice-aggregate-copy-at c = search needs
+
+copy-at-requires : tie.Need-copy-at-requires
+copy-at-requires c κs = search needs
+
+add-write-value : tie.Need-add-write-value
+add-write-value c = search needs
+
+write-value-requires : tie.Need-write-value-requires
+write-value-requires c κs =
+    let start = c .before .before .before .before .before .before .before .before .before .before in
+    omega (arith, start .pre, sound-length (start .args .state .now) (sound (c .before .before .before .before .before .before)), c .before .before .before .copy-at .kept .0)
+
+same-length : tie.Need-same-length
+same-length c = search needs
+
+returns-2 : tie.Need-returns-2
+returns-2 c =
+    let a = c .before .before .before .before .before .before .before .before .before .before .before .before .before .args in
+    let wrote = c .before .before .write-value in
+    let w = state-sound (a .output .now) (a .at) (a .state .now) (sound (c .before .before .before .before .before .before .before .before .before)) _ _ (wrote .result) (c .before .before .before .before .before .before .copy-at .ensures) (wrote .ensures .0) (wrote .ensures .1) in
+    (w .next-is, w .bytes-are)
+
+pub write-one-state-spec : {M : Type 1} → statement M
+write-one-state-spec =
+    tie.close
+    (tie.spec
+    is-sound-state-requires
+    returns
+    slice-aggregate-copy-at
+    copy-at-requires
+    add-write-value
+    write-value-requires
+    same-length
+    returns-2)

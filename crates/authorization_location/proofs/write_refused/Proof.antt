@@ -1,0 +1,42 @@
+-- The address, the error and the state stand one behind the other.
+use borrow.Author.Needs.{needs}
+use Rattle.form.specs.Places.{viewOf}
+use Rattle.protocol.specs.Authorization.{errorParameter}
+use Rattle.authorization_location.proofs.Location.{Written, redirect-next, located}
+use Rattle.authorization_location.proofs.write_refused.Statement.{statement}
+use Rattle.authorization_location.proofs.write_refused.Tie as tie
+
+write-redirect-requires : tie.Need-write-redirect-requires
+write-redirect-requires c κs = search needs
+
+write-error-requires : tie.Need-write-error-requires
+write-error-requires c κs = search needs
+
+write-state-requires : tie.Need-write-state-requires
+write-state-requires c κs = search needs
+
+same-length : tie.Need-same-length
+same-length c = search needs
+
+returns : tie.Need-returns
+returns c =
+    let a = c .before .before .before .before .before .before .before .before .before .before .before .before .before .before .before .args in
+    let redirect = a .redirect .now in
+    let address = c .before .before .before .before .before .before .before .before .before .before .write-redirect in
+    let error = c .before .before .before .before .before .before .write-error in
+    let state = c .before .before .write-state in
+    located (a .output .now) _ _ _ (address .result) (error .result) (state .result) redirect (errorParameter (a .word))
+    (viewOf (a .query .now) (a .state))
+    (record { next-is = redirect-next redirect (address .result) (address .ensures .0); bytes-are = address .ensures .1 })
+    (record { next-is = error .ensures .0 .0; bytes-are = error .ensures .1 })
+    (record { next-is = state .ensures .0; bytes-are = state .ensures .1 })
+
+pub write-refused-spec : {M : Type 1} → statement M
+write-refused-spec =
+    tie.close
+    (tie.spec
+    write-redirect-requires
+    write-error-requires
+    write-state-requires
+    same-length
+    returns)

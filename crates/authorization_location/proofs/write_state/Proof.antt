@@ -1,0 +1,79 @@
+-- The front of the buffer is the value of a state that came once.
+use borrow.Author.Needs.{needs}
+use mathlib.Core.Path.{_≡_, sym, _∙_}
+use Rattle.form.specs.Places.{viewOf}
+use Rattle.protocol.specs.Requests.{valueOf}
+use Rattle.request_values.proofs.Buffers.{Front, front-value}
+use Rattle.authorization_location.proofs.Location.{state-missing, state-repeated, came-once}
+use Rattle.authorization_location.proofs.write_state.Statement.{statement}
+use Rattle.authorization_location.proofs.write_state.Tie as tie
+
+abbrev start : tie.After-value-into → tie.Start
+start c = c .before .before .before .before .before .before .before .before
+
+decoded : (c : tie.After-value-into)
+    → Front (c .value-into .last .1 .1 .0) (c .value-into .result) (valueOf (viewOf (start c .args .query .now) (start c .args .state)))
+decoded c =
+    front-value (start c .args .query .now) (start c .args .state) (start c .pre .1) _ _ (c .value-into .ensures .0) (c .value-into .ensures .1)
+
+is-missing-requires : tie.Need-is-missing-requires
+is-missing-requires c κs = search needs
+
+returns : tie.Need-returns
+returns c =
+    let a = c .before .before .before .before .args in
+    let w = state-missing (a .output .now) (a .at) (viewOf (a .query .now) (a .state)) (sym (c .before .is-missing .ensures) ∙ c .if1 .taken) in
+    (w .next-is, w .bytes-are)
+
+is-repeated-requires : tie.Need-is-repeated-requires
+is-repeated-requires c κs = search needs
+
+returns-2 : tie.Need-returns-2
+returns-2 c =
+    let a = c .before .before .before .before .before .before .args in
+    let w = state-repeated (a .output .now) (a .at) (viewOf (a .query .now) (a .state)) (sym (c .before .is-repeated .ensures) ∙ c .if2 .taken) in
+    (w .next-is, w .bytes-are)
+
+slice-aggregate-value-into : tie.Need-slice-aggregate-value-into
+slice-aggregate-value-into c = search needs
+
+value-into-requires : tie.Need-value-into-requires
+value-into-requires c κs = search needs
+
+array-share-prefix-buffer : tie.Need-array-share-prefix-buffer
+array-share-prefix-buffer c = decoded (c .before .before) .fits
+
+slice-aggregate-write-one-state : tie.Need-slice-aggregate-write-one-state
+slice-aggregate-write-one-state c = decoded (c .before .before .before) .count
+
+write-one-state-requires : tie.Need-write-one-state-requires
+write-one-state-requires c κs = search needs
+
+same-length : tie.Need-same-length
+same-length c = search needs
+
+returns-3 : tie.Need-returns-3
+returns-3 c =
+    let v = c .before .before .before .before .before .before in
+    let a = start v .args in
+    let past = v .before .before in
+    let came = came-once (viewOf (a .query .now) (a .state)) (sym (past .before .before .before .is-missing .ensures) ∙ past .before .before .if1 .left)
+    (sym (past .before .is-repeated .ensures) ∙ past .if2 .left)
+    in
+    rw (decoded v .text, came) at (c .before .before .write-one-state .ensures)
+
+pub write-state-spec : {M : Type 1} → statement M
+write-state-spec =
+    tie.close
+    (tie.spec
+    is-missing-requires
+    returns
+    is-repeated-requires
+    returns-2
+    slice-aggregate-value-into
+    value-into-requires
+    array-share-prefix-buffer
+    slice-aggregate-write-one-state
+    write-one-state-requires
+    same-length
+    returns-3)

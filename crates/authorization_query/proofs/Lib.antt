@@ -1,0 +1,3 @@
+-- Laws of reading a query.
+pub mod Names
+pub mod Reading

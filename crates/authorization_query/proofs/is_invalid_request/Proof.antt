@@ -1,0 +1,46 @@
+-- The four tests are those of the definition, at the names' places.
+use borrow.Author.Needs.{needs}
+use Rattle.protocol.specs.Authorization.{isInvalidRequest}
+use Rattle.authorization_query.proofs.Names.{good-short, place-within, type-said, scope-said, state-said}
+use Rattle.authorization_query.proofs.is_invalid_request.Statement.{statement}
+use Rattle.authorization_query.proofs.is_invalid_request.Tie as tie
+
+array-copy-out-kind : tie.Need-array-copy-out-kind
+array-copy-out-kind c = search needs
+
+array-copy-out-scope : tie.Need-array-copy-out-scope
+array-copy-out-scope c = search needs
+
+array-copy-out-state : tie.Need-array-copy-out-state
+array-copy-out-state c = search needs
+
+is-missing-requires : tie.Need-is-missing-requires
+is-missing-requires c κs = search needs
+
+is-repeated-requires : tie.Need-is-repeated-requires
+is-repeated-requires c κs = search needs
+
+is-repeated-requires-2 : tie.Need-is-repeated-requires-2
+is-repeated-requires-2 c κs = search needs
+
+is-bad-state-requires : tie.Need-is-bad-state-requires
+is-bad-state-requires c κs = let start = c .before .before .before .before .before .before .before in (place-within _ _ (start .pre) 4, good-short _ (start .pre .good))
+
+returns : tie.Need-returns
+unfolding isInvalidRequest
+returns c =
+    let r = c .before .before .before .before .before .before .before .before .pre in
+    rw (c .before .before .before .is-missing .ensures, c .before .before .is-repeated .ensures, c .before .is-repeated2 .ensures, c .is-bad-state .ensures, type-said _ _ r, scope-said _ _ r, state-said _ _ r)
+
+pub is-invalid-request-spec : {M : Type 1} → statement M
+is-invalid-request-spec =
+    tie.close
+    (tie.spec
+    array-copy-out-kind
+    array-copy-out-scope
+    array-copy-out-state
+    is-missing-requires
+    is-repeated-requires
+    is-repeated-requires-2
+    is-bad-state-requires
+    returns)

@@ -1,0 +1,115 @@
+-- The client is looked up first; each answer of the reader has its law.
+use borrow.Author.Needs.{needs}
+use mathlib.Core.Path.{_≡_, sym, ap, _∙_}
+use mathlib.Core.Bool.{not, _&&_}
+use Rattle.octets.specs.Text.{bytes}
+use Rattle.form.specs.Content.{Value, formValue}
+use Rattle.client_registry.specs.Registry.{clientsOf}
+use Rattle.client_registry.specs.Lookup.{clientAt, findClient, IsEntry}
+use Rattle.client_registry.specs.declared.FoundClient.the-variants.{At}
+use Rattle.client_registry.proofs.Lookup.{find-at}
+use Rattle.protocol.specs.Requests.{isMissing, isRepeated, valueOf, isOnce}
+use Rattle.authorization_query.proofs.Names.{good-short, place-within, client-said, redirect-said}
+use Rattle.authorization_query.proofs.Reading.{read-unknown, read-repeated, read-other, read-known}
+use Rattle.authorization_query.proofs.read_places.Statement.{statement}
+use Rattle.authorization_query.proofs.read_places.Tie as tie
+
+-- the client that client_id names
+named : (c : tie.After-client-named)
+    → let a = c .before .before .before .before .args in c .client-named .result ≡ findClient (a .registry .now) (valueOf (formValue (a .query .now) (bytes "client_id")))
+named c = c .client-named .ensures ∙ ap (λ (v : Value). findClient (c .before .before .before .before .args .registry .now) (valueOf v)) (client-said _ _ (c .before .before .before .before .pre .1))
+
+found : (c : tie.After-client)
+    → let a = c .before .before .before .before .before .before .args in findClient (a .registry .now) (valueOf (formValue (a .query .now) (bytes "client_id"))) ≡ At (c .client .given .0 .0)
+found c = sym (named (c .before .before)) ∙ c .client .given .1
+
+entry : (c : tie.After-client) → IsEntry (c .before .before .before .before .before .before .args .registry .now) (c .client .given .0 .0)
+entry c = find-at (c .before .before .before .before .before .before .args .registry .now) _ (c .before .before .before .before .before .before .pre .0) (c .client .given .0 .0) (found c) .entry
+
+-- what the query says of redirect_uri
+repeated : (c : tie.After-is-repeated) → isRepeated (formValue (c .before .before .before .before .before .before .before .before .before .args .query .now) (bytes "redirect_uri")) ≡ c .is-repeated .result
+repeated c = ap isRepeated (sym (redirect-said _ _ (c .before .before .before .before .before .before .before .before .before .pre .1))) ∙ sym (c .is-repeated .ensures)
+
+other : (c : tie.After-is-other-redirect)
+    → let a = c .before .before .before .before .before .before .before .before .before .before .before .before .args in
+    let v = formValue (a .query .now) (bytes "redirect_uri") in
+    (not (isMissing v) && not (isOnce (clientAt (clientsOf (a .registry .now)) (c .before .before .before .before .before .before .client .given .0 .0 .number) .redirect) v)) ≡ c .is-other-redirect .result
+other c = rw (← redirect-said _ _ (c .before .before .before .before .before .before .before .before .before .before .before .before .pre .1), ← c .before .redirect2 .ensures) (sym (c .is-other-redirect .ensures))
+
+array-copy-out-id : tie.Need-array-copy-out-id
+array-copy-out-id c = search needs
+
+client-named-requires : tie.Need-client-named-requires
+client-named-requires c κs = let start = c .before .before .before in (start .pre .0, place-within _ _ (start .pre .1) 1, good-short _ (start .pre .1 .good))
+
+enum-known-client : tie.Need-enum-known-client
+enum-known-client c = search needs
+
+enum-told : tie.Need-enum-told
+enum-told c = search needs
+
+returns : tie.Need-returns
+returns c =
+    let a = c .before .before .before .before .before .before .args in
+    read-unknown (a .registry .now) (a .query .now) (a .decision) (a .farm) (c .before .before .before .before .before .before .pre .1 .good)
+    (sym (named (c .before .before)) ∙ c .enum-told .given .1)
+
+array-copy-out-redirect : tie.Need-array-copy-out-redirect
+array-copy-out-redirect c = search needs
+
+is-repeated-requires : tie.Need-is-repeated-requires
+is-repeated-requires c κs = search needs
+
+returns-2 : tie.Need-returns-2
+returns-2 c =
+    let a = c .before .before .before .before .before .before .before .before .before .before .args in
+    read-repeated (a .registry .now) (a .query .now) (a .decision) (a .farm) (c .before .before .before .before .before .before .before .before .before .before .pre .1 .good) (repeated (c .before) ∙ c .if1 .taken)
+
+redirect-requires : tie.Need-redirect-requires
+redirect-requires c κs = let start = c .before .before .before .before .before .before .before .before .before .before in (start .pre .0, entry (c .before .before .before .before))
+
+is-other-redirect-requires : tie.Need-is-other-redirect-requires
+is-other-redirect-requires c κs = let start = c .before .before .before .before .before .before .before .before .before .before .before in place-within _ _ (start .pre .1) 2
+
+returns-3 : tie.Need-returns-3
+returns-3 c =
+    let a = c .before .before .before .before .before .before .before .before .before .before .before .before .before .args in
+    read-other (a .registry .now) (a .query .now) (a .decision) (a .farm) (c .before .before .before .before .before .before .before .before .before .before .before .before .before .pre .1 .good) (c .before .before .before .before .before .before .before .before .before .before .before .before .before .pre .0) (c .before .before .before .before .before .before .before .client .given .0 .0)
+    (found (c .before .before .before .before .before .before .before)) (repeated (c .before .before .before .before) ∙ c .before .before .before .if1 .left) (other (c .before) ∙ c .if2 .taken)
+
+scope-set-requires : tie.Need-scope-set-requires
+scope-set-requires c κs = let start = c .before .before .before .before .before .before .before .before .before .before .before .before .before in (start .pre .0, entry (c .before .before .before .before .before .before .before))
+
+ask-requires : tie.Need-ask-requires
+ask-requires c κs = search needs
+
+array-copy-out-state : tie.Need-array-copy-out-state
+array-copy-out-state c = search needs
+
+returns-4 : tie.Need-returns-4
+returns-4 c =
+    let start = c .before .before .before .before .before .before .before .before .before .before .before .before .before .before .before .before in
+    let a = start .args in
+    rw (c .before .ask .ensures, c .before .before .scope-set .ensures, start .pre .1 .found)
+    (read-known (a .registry .now) (a .query .now) (a .decision) (a .farm) (start .pre .1 .good) (start .pre .0) (c .before .before .before .before .before .before .before .before .before .before .client .given .0 .0)
+    (found (c .before .before .before .before .before .before .before .before .before .before)) (repeated (c .before .before .before .before .before .before .before) ∙ c .before .before .before .before .before .before .if1 .left) (other (c .before .before .before .before) ∙ c .before .before .before .if2 .left))
+
+pub read-places-spec : {M : Type 1} → statement M
+read-places-spec =
+    tie.close
+    (tie.spec
+    array-copy-out-id
+    client-named-requires
+    enum-known-client
+    enum-told
+    returns
+    array-copy-out-redirect
+    is-repeated-requires
+    returns-2
+    redirect-requires
+    is-other-redirect-requires
+    returns-3
+    scope-set-requires
+    ask-requires
+    array-copy-out-state
+    returns-4)

@@ -1,0 +1,53 @@
+-- A query that is too long or malformed is refused; of any other the places are those of its names.
+use borrow.Author.Needs.{needs}
+use Rattle.form.proofs.Answers.{told-malformed, told-well-formed}
+use Rattle.authorization_query.specs.Reading.{queryNames}
+use Rattle.authorization_query.proofs.Names.{good-query, found-places}
+use Rattle.authorization_query.proofs.Reading.{read-long, read-malformed}
+use Rattle.authorization_query.proofs.read_query.Statement.{statement}
+use Rattle.authorization_query.proofs.read_query.Tie as tie
+
+returns : tie.Need-returns
+returns c = let a = c .before .before .before .args in read-long (a .registry .now) (a .query .now) (a .decision) (a .farm) (c .if1 .taken)
+
+slice-aggregate-read : tie.Need-slice-aggregate-read
+slice-aggregate-read c = search needs
+
+read-requires : tie.Need-read-requires
+read-requires c κs = search needs
+
+enum-told : tie.Need-enum-told
+enum-told c = search needs
+
+enum-told-2 : tie.Need-enum-told-2
+enum-told-2 c = search needs
+
+returns-2 : tie.Need-returns-2
+returns-2 c =
+    let a = c .before .before .before .before .before .before .before .args in
+    read-malformed (a .registry .now) (a .query .now) (a .decision) (a .farm)
+    (told-malformed queryNames (a .query .now) (c .before .before .read .result) (c .before .before .read .ensures .0) (c .enum-told2 .given .1))
+
+read-places-requires : tie.Need-read-places-requires
+read-places-requires c κs =
+    let start = c .before .before .before .before .before .before .before .before in
+    let query = start .args .query .now in
+    let read = c .before .before .before .read in
+    let formed = told-well-formed queryNames query (read .result) (read .ensures .0) (c .before .enum-told .given .1) in
+    (start .pre, record { good = good-query query (c .before .before .before .before .before .if1 .left) formed; found = found-places query (read .result) (read .ensures .0) formed })
+
+returns-3 : tie.Need-returns-3
+returns-3 c = search needs
+
+pub read-query-spec : {M : Type 1} → statement M
+read-query-spec =
+    tie.close
+    (tie.spec
+    returns
+    slice-aggregate-read
+    read-requires
+    enum-told
+    enum-told-2
+    returns-2
+    read-places-requires
+    returns-3)

@@ -1,0 +1,2 @@
+-- Laws of the table of error words.
+pub mod Words

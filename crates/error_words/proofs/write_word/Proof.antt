@@ -1,0 +1,72 @@
+-- The word's row is copied, as much of it as the word fills.
+use borrow.Author.Needs.{needs}
+use Prim.Native.Nat.{_≤_}
+use mathlib.Core.Path.{_≡_, _∙_, ap}
+use native.Mathlib.Omega.{arith}
+use native.Mathlib.Nat.{add-sub-cancel-left}
+use Rattle.error_words.proofs.Words.{Row, row}
+use Rattle.error_words.proofs.write_word.Statement.{statement}
+use Rattle.error_words.proofs.write_word.Tie as tie
+
+-- the row that is read
+at-row : (c : tie.After-number) → Row (c .number .result) (c .before .before .args .word)
+at-row c = rw (c .number .ensures) (row (c .before .before .args .word))
+
+number-requires : tie.Need-number-requires
+number-requires c κs = search needs
+
+sub-row : tie.Need-sub-row
+sub-row c = omega (arith, at-row c .least)
+
+mul-start : tie.Need-mul-start
+mul-start c = omega (arith, at-row c .most)
+
+mul-count : tie.Need-mul-count
+mul-count c = omega (arith, at-row c .most)
+
+array-read-count : tie.Need-array-read-count
+array-read-count c = omega (arith, at-row c .least, at-row c .most)
+
+add-end : tie.Need-add-end
+add-end c = omega (arith, at-row c .most, at-row c .count, at-row c .short)
+
+sub-copy-at : tie.Need-sub-copy-at
+sub-copy-at c = search needs
+
+part-copy-at-start : tie.Need-part-copy-at-start
+part-copy-at-start c = search needs
+
+part-copy-at-end : tie.Need-part-copy-at-end
+part-copy-at-end c = let r = at-row (c .before .before) in omega (arith, r .most, r .count, r .short)
+
+copy-at-requires : tie.Need-copy-at-requires
+copy-at-requires c κs = let r = at-row (c .before .before .before) in rw (add-sub-cancel-left, r .count, r .text) (omega (arith, r .short, c .before .before .before .before .before .pre))
+
+add-result : tie.Need-add-result
+add-result c = let r = at-row (c .before .before .before .before .before .before) in omega (arith, r .count, r .short, c .before .before .before .before .before .before .before .before .pre)
+
+same-length : tie.Need-same-length
+same-length c = search needs
+
+returns : tie.Need-returns
+returns c =
+    let r = at-row (c .before .before .before .before .before .before) in
+    (rw (r .count), rw (add-sub-cancel-left, r .count, r .text) at (c .before .before .copy-at .ensures))
+
+pub write-word-spec : {M : Type 1} → statement M
+write-word-spec =
+    tie.close
+    (tie.spec
+    number-requires
+    sub-row
+    mul-start
+    mul-count
+    array-read-count
+    add-end
+    sub-copy-at
+    part-copy-at-start
+    part-copy-at-end
+    copy-at-requires
+    add-result
+    same-length
+    returns)

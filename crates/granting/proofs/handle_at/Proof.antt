@@ -1,0 +1,50 @@
+-- The copy covers the whole array.
+use borrow.Author.Needs.{needs}
+use Prim.Native.Nat.{_+_, _-_}
+use mathlib.Core.Path.{_≡_, _∙_}
+use native.Mathlib.Omega.{arith}
+use lib.ListN.{replicate}
+use Rattle.octets.specs.Lists.{part}
+use Rattle.octets.proofs.Lists.{length-part}
+use Rattle.encoding.proofs.Stores.{sets-all}
+use Rattle.token_store.specs.Layout.{handleSize}
+use Rattle.granting.proofs.handle_at.Statement.{statement}
+use Rattle.granting.proofs.handle_at.Tie as tie
+
+add-end : tie.Need-add-end
+add-end c = search needs
+
+slice-aggregate-copy-at : tie.Need-slice-aggregate-copy-at
+slice-aggregate-copy-at c = search needs
+
+sub-copy-at : tie.Need-sub-copy-at
+sub-copy-at c = search needs
+
+part-copy-at-start : tie.Need-part-copy-at-start
+part-copy-at-start c = search needs
+
+part-copy-at-end : tie.Need-part-copy-at-end
+part-copy-at-end c = search needs
+
+copy-at-requires : tie.Need-copy-at-requires
+copy-at-requires c κs = search needs
+
+returns : tie.Need-returns
+returns c =
+    let s = c .before .before .before .before .before in
+    let at = s .args .at in
+    let random = s .args .random .now in
+    let size : at + handleSize - at ≡ handleSize = omega arith in
+    c .before .copy-at .ensures ∙ rw size (sets-all (replicate handleSize 0) (part random at handleSize) (length-part random at handleSize (search needs)))
+
+pub handle-at-spec : {M : Type 1} → statement M
+handle-at-spec =
+    tie.close
+    (tie.spec
+    add-end
+    slice-aggregate-copy-at
+    sub-copy-at
+    part-copy-at-start
+    part-copy-at-end
+    copy-at-requires
+    returns)

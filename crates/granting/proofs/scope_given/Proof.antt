@@ -1,0 +1,30 @@
+-- The definition, case by case.
+use borrow.Author.Needs.{needs}
+use Rattle.protocol.specs.Requests.{scopeGiven}
+use Rattle.granting.proofs.scope_given.Statement.{statement}
+use Rattle.granting.proofs.scope_given.Tie as tie
+
+enum-told : tie.Need-enum-told
+enum-told c = search needs
+
+enum-known-asked : tie.Need-enum-known-asked
+enum-known-asked c = search needs
+
+enum-told-2 : tie.Need-enum-told-2
+enum-told-2 c = search needs
+
+returns : tie.Need-returns
+unfolding scopeGiven
+returns c = rw (c .enum-told .given .1)
+
+returns-2 : tie.Need-returns-2
+unfolding scopeGiven
+returns-2 c = rw (c .before .asked .given .1)
+
+returns-3 : tie.Need-returns-3
+unfolding scopeGiven
+returns-3 c = rw (c .enum-told2 .given .1)
+
+pub scope-given-spec : {M : Type 1} → statement M
+scope-given-spec =
+    tie.close (tie.spec enum-told enum-known-asked enum-told-2 returns returns-2 returns-3)

@@ -1,0 +1,64 @@
+-- `any` says whether a name before place k is repeated: with the places from k on, that is the answer.
+use borrow.Author.Needs.{needs}
+use Prim.Native.Nat.{_≤_, _-_}
+use mathlib.Core.Path.{_≡_, refl, _∙_}
+use mathlib.Core.Bool.{_||_}
+use lib.ListN.{length, drop}
+use Rattle.form.specs.Places.{placeCount, unseen, viewOf}
+use Rattle.protocol.specs.Requests.{isRepeated}
+use Rattle.token_request.specs.Reading.{anyRepeated}
+use Rattle.token_request.proofs.Bodies.{any-more, any-done}
+use Rattle.token_request.proofs.any_repeated.Statement.{statement}
+use Rattle.token_request.proofs.any_repeated.Tie as tie
+
+abbrev Inv-loop : tie.InvT-loop
+Inv-loop body places any₀ k₀ any k = (k ≤ placeCount) × (length places ≡ placeCount) × ((any || anyRepeated body (drop k places)) ≡ anyRepeated body places)
+
+abbrev μ-loop : tie.MeasureT-loop
+μ-loop body places any₀ k₀ any k = placeCount - k
+
+loop-holds : tie.Need-loop-holds Inv-loop μ-loop
+loop-holds c = (search needs, c .before .good .1 .0 .1 .0 .1, refl)
+
+mul-place : tie.Need-mul-place Inv-loop μ-loop
+mul-place c = search needs
+
+array-copy-out-place : tie.Need-array-copy-out-place Inv-loop μ-loop
+array-copy-out-place c = search needs
+
+is-repeated-requires : tie.Need-is-repeated-requires Inv-loop μ-loop
+is-repeated-requires c κs = search needs
+
+add-k : tie.Need-add-k Inv-loop μ-loop
+add-k c = search needs
+
+loop-less : tie.Need-loop-less Inv-loop μ-loop
+loop-less c = search needs
+
+loop-again : tie.Need-loop-again Inv-loop μ-loop
+loop-again c =
+    let a = c .before .before .before .before .before .args in
+    let l = c .before .before .before .loop in
+    let more = any-more (λ p. isRepeated (viewOf (a .body .now) p)) (l .any) (a .t2) (l .k) unseen (search needs) in
+    (search needs, l .inv .1, rw (c .is-repeated .ensures) (more ∙ l .inv .2))
+
+returns : tie.Need-returns Inv-loop μ-loop
+returns c =
+    let a = c .before .before .before .args in
+    let l = c .before .loop in
+    any-done (λ p. isRepeated (viewOf (a .body .now) p)) (l .any) (a .t2) (l .k) unseen (search needs) ∙ l .inv .2
+
+pub any-repeated-spec : {M : Type 1} → statement M
+any-repeated-spec =
+    tie.close
+    (tie.spec
+    Inv-loop
+    μ-loop
+    loop-holds
+    mul-place
+    array-copy-out-place
+    is-repeated-requires
+    add-k
+    loop-less
+    loop-again
+    returns)

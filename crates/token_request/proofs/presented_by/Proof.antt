@@ -1,0 +1,46 @@
+-- The front of the buffer is the value, which is read as a handle.
+use borrow.Author.Needs.{needs}
+use mathlib.Core.Path.{ap, _∙_}
+use Rattle.encoding.specs.Hex.{readHandle}
+use Rattle.form.specs.Places.{viewOf}
+use Rattle.protocol.specs.Requests.{valueOf}
+use Rattle.request_values.proofs.Buffers.{Front, front-value}
+use Rattle.token_request.proofs.presented_by.Statement.{statement}
+use Rattle.token_request.proofs.presented_by.Tie as tie
+
+abbrev start : tie.After-value-into → tie.Start
+start c = c .before .before .before
+
+decoded : (c : tie.After-value-into)
+    → Front (c .value-into .last .1 .1 .0) (c .value-into .result) (valueOf (viewOf (start c .args .body .now) (start c .args .p)))
+decoded c =
+    front-value (start c .args .body .now) (start c .args .p) (start c .pre .1) _ _ (c .value-into .ensures .0) (c .value-into .ensures .1)
+
+slice-aggregate-value-into : tie.Need-slice-aggregate-value-into
+slice-aggregate-value-into c = search needs
+
+value-into-requires : tie.Need-value-into-requires
+value-into-requires c κs = search needs
+
+array-share-prefix-buffer : tie.Need-array-share-prefix-buffer
+array-share-prefix-buffer c = decoded (c .before) .fits
+
+slice-aggregate-read-handle : tie.Need-slice-aggregate-read-handle
+slice-aggregate-read-handle c = decoded (c .before .before) .count
+
+read-handle-requires : tie.Need-read-handle-requires
+read-handle-requires c κs = search needs
+
+returns : tie.Need-returns
+returns c = c .read-handle .ensures ∙ ap readHandle (decoded (c .before .before .before) .text)
+
+pub presented-by-spec : {M : Type 1} → statement M
+presented-by-spec =
+    tie.close
+    (tie.spec
+    slice-aggregate-value-into
+    value-into-requires
+    array-share-prefix-buffer
+    slice-aggregate-read-handle
+    read-handle-requires
+    returns)
