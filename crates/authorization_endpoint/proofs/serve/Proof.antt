@@ -1,0 +1,63 @@
+-- An error page is answered at once; the query of a known client is answered on the store.
+use borrow.Author.Needs.{needs}
+use mathlib.Core.Path.{_≡_, sym, _∙_}
+use Rattle.authorization_query.specs.declared.QueryReading.the-variants.{FromClient}
+use Rattle.authorization_query.specs.Reading.{readQuery}
+use Rattle.authorization_query.proofs.Reading.{known, page-reading, client-reading}
+use Rattle.authorization_endpoint.proofs.Serving.{served-page}
+use Rattle.authorization_endpoint.proofs.serve.Statement.{statement}
+use Rattle.authorization_endpoint.proofs.serve.Tie as tie
+
+-- what was read is the query of this client
+read : (c : tie.After-asking)
+    → let a = c .before .before .before .before .before .before .before .before .args in readQuery (a .registry .now) (a .query .now) (a .decision) (a .farm) ≡ FromClient (c .asking .given .0 .0)
+read c = sym (c .before .before .read-query .ensures) ∙ c .asking .given .1
+
+read-query-requires : tie.Need-read-query-requires
+read-query-requires c κs = search needs
+
+enum-known-cause : tie.Need-enum-known-cause
+enum-known-cause c = search needs
+
+enum-known-asking : tie.Need-enum-known-asking
+enum-known-asking c = search needs
+
+answer-requires : tie.Need-answer-requires
+answer-requires c κs =
+    let start = c .before .before .before .before .before .before .before .before .before .before .before in
+    let a = start .args in
+    let p = start .pre in
+    let asking = c .before .before .before .asking .given .0 .0 in
+    (p .0, known (a .registry .now) (a .query .now) (a .decision) (a .farm) (p .0) asking (read (c .before .before .before)), p .1, p .2, p .3, p .4)
+
+returns : tie.Need-returns
+returns c =
+    let a = c .before .before .before .before .before .before .before .before .before .args in
+    let cause = c .before .cause .given .0 .0 in
+    served-page (a .t) (a .registry .now) (a .query .now) (a .random .now) (a .store .now) (a .output .now) cause _
+    (page-reading (a .registry .now) (a .query .now) (a .decision) (a .farm) cause (sym (c .before .before .before .read-query .ensures) ∙ c .before .cause .given .1))
+
+same-length : tie.Need-same-length
+same-length c = search needs
+
+same-length-2 : tie.Need-same-length-2
+same-length-2 c = search needs
+
+returns-2 : tie.Need-returns-2
+returns-2 c =
+    let a = c .before .before .before .before .before .before .before .before .before .before .before .before .before .before .before .before .args in
+    let asking = c .before .before .before .before .before .before .before .before .asking .given .0 .0 in
+    rw (← client-reading (a .registry .now) (a .query .now) (a .decision) (a .farm) asking (read (c .before .before .before .before .before .before .before .before))) (c .before .before .before .before .answer .ensures)
+
+pub serve-spec : {M : Type 1} → statement M
+serve-spec =
+    tie.close
+    (tie.spec
+    read-query-requires
+    enum-known-cause
+    enum-known-asking
+    answer-requires
+    returns
+    same-length
+    same-length-2
+    returns-2)
