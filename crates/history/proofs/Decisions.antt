@@ -70,7 +70,8 @@ module _ (t : ℕ) (slots : List Slot) (random : List ℕ) where
       && (fits scope (refreshSlot p slots .scope) && (leb 1 (room t slots) && not (isTaken (firstHandle random) slots))))
   unfolding decide
   refresh-granted client p scope =
-      four-refusals (isGoodRefresh t client (refreshSlot p slots)) (fits scope (refreshSlot p slots .scope)) (leb 1 (room t slots)) (isTaken (firstHandle random) slots) _ _ _ _
+      let s = refreshSlot p slots in
+      four-refusals (isGoodRefresh t client s) (fits scope (s .scope)) (leb 1 (room t slots)) (isTaken (firstHandle random) slots) _ _ _ _
 
 -- ---- a granted exchange, and a granted refresh, is of a live slot and has room
 

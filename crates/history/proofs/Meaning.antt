@@ -192,10 +192,13 @@ code-answered registry store query decision farm clock random output = by (admit
     clients : List Client
     clients = clientsOf registry
 
+    -- what is written for a decision
+    written : Decision → List ℕ
+    written d = locationText (clientAt clients (queryClient clients query) .redirect) (formValue query (bytes "state")) (firstTwenty random) d
+
     by : (d : Decision) → isGrant (authorizationAdmitted d query decision farm registry store clock random output .answer .decision) ≡ true
-        → authorizationAdmitted d query decision farm registry store clock random output .output
-        ≡ sets output 0 (location (clientAt (clientsOf registry) (queryClient (clientsOf registry) query) .redirect) (codeParameter (firstTwenty random)) (formValue query (bytes "state")))
+        → authorizationAdmitted d query decision farm registry store clock random output .output ≡ sets output 0 (written Grant)
     by Grant e =
         let decided = decideReading (callTime (decode store) clock) (decode store .slots) random (readAuthorization clients query decision farm) in
-        ap (λ (d : Decision). sets output 0 (locationText (clientAt clients (queryClient clients query) .redirect) (formValue query (bytes "state")) (firstTwenty random) d)) (is-grant decided e)
+        ap (λ (d : Decision). sets output 0 (written d)) (is-grant decided e)
     by (Refuse r) e = absurd (false≢true e)

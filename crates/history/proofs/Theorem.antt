@@ -145,8 +145,10 @@ module _ (registry : List ℕ) (fit : fitRegistry registry ≡ true) {b : List �
             let from : refreshSlot p slots .scope ≡ originRefresh p (c .standing) .scope =
             ap (λ (s : Slot). s .scope) (sym (origin-refresh (c .standing) invariant-at once p live))
             in
-            reply-is (refresh client p scope) reads e
-            ∙ ap (λ (set : ℕ). sets output 0 (tokenReply (firstTwenty random) [] set)) (ap (scopeGiven scope) from ∙ given-asked scope (originRefresh p (c .standing) .scope))
+            let given : scopeGiven scope (refreshSlot p slots .scope) ≡ askedOr scope (originRefresh p (c .standing) .scope) =
+            ap (scopeGiven scope) from ∙ given-asked scope (originRefresh p (c .standing) .scope)
+            in
+            reply-is (refresh client p scope) reads e ∙ ap (λ (set : ℕ). sets output 0 (tokenReply (firstTwenty random) [] set)) given
 
   -- ---- the check
 

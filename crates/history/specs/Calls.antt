@@ -21,7 +21,7 @@ pub data Call : Type 0 where
   token : (header body : List ℕ) (clock : ℕ) (random output : List ℕ) → Call
   check : (presented : List ℕ) (clock : ℕ) → Call
 
--- what a host's types assure and a call's answer needs: the farm number has 32 bits
+-- a host hands over a farm number of 32 bits; nothing else is asked of a call
 abbrev pub WellTyped : Call → Type 0
 WellTyped (authorization query decision farm clock random output) = farm < 2 ^ 32
 WellTyped (token header body clock random output) = Unit {0}
