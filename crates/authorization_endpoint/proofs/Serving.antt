@@ -2,18 +2,17 @@
 --
 -- In order: an error page; a known client's query; the buffers; the whole outcome, refused and served.
 -- Assumes nothing.
-use Prim.Native.Nat.{ℕ, suc, _≤_, _<_}
-use mathlib.Core.Path.{_≡_, refl, sym, ap, subst, _∙_}
+use Prim.Native.Nat.{ℕ, _≤_, _<_}
+use mathlib.Core.Path.{_≡_, refl, ap, subst, _∙_}
 use mathlib.Core.Bool.{Bool, true, false, not, _&&_, _||_, true≢false}
-use mathlib.Core.List.{List, []}
+use mathlib.Core.List.{List}
 use native.Mathlib.Omega.{arith}
-use borrow.Author.Tests.{leb-true, leb-false, le-ltb, lt-ltb, eqb-true, ltb-false, not-false}
+use borrow.Author.Tests.{leb-true, leb-false, le-ltb, lt-ltb, eqb-true, ltb-false}
 use lib.Dec.{leb, ltb, eqb}
-use lib.ListN.{length, take}
+use lib.ListN.{length}
 use lib.Seq.{sets, take-all}
 use Rattle.octets.specs.Text.{bytes}
 use Rattle.octets.specs.Lists.{Bytes}
-use Rattle.form.specs.Content.{formValue}
 use Rattle.form.specs.Places.{viewOf}
 use Rattle.client_registry.specs.Registry.{clientsOf, fitRegistry}
 use Rattle.client_registry.specs.Lookup.{clientAt}
@@ -29,8 +28,8 @@ use Rattle.protocol.specs.declared.Decision.the-variants.{Grant, Refuse}
 use Rattle.protocol.specs.declared.AuthorizationAnswer.{AuthorizationAnswer}
 use Rattle.protocol.specs.Requests.{Reading, refused}
 use Rattle.protocol.specs.Authorization.{readAuthorization, locationText}
-use Rattle.protocol.specs.Granting.{firstHandle, decideReading, slotsAfter}
-use Rattle.protocol.specs.Outcomes.{Outcome, leastOutput, unfitBuffers, admit, authorizationServed, authorizationAdmitted, authorizationOutcome}
+use Rattle.protocol.specs.Granting.{decideReading, slotsAfter}
+use Rattle.protocol.specs.Outcomes.{leastOutput, unfitBuffers, admit, authorizationServed, authorizationAdmitted, authorizationOutcome}
 use Rattle.admission.proofs.Admitting.{stored}
 use Rattle.authorization_query.specs.declared.ClientQuery.{ClientQuery}
 use Rattle.authorization_query.specs.Reading.{Known}

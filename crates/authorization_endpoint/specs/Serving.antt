@@ -28,6 +28,8 @@ locationFor registry query random decided =
 
 -- a call at t, which was read so, turned the store and the output into others and answered r
 pub record Served (t : ℕ) (registry query random : List ℕ) (reading : Reading) (store₀ store₁ output₀ output₁ : List ℕ) (r : AuthorizationAnswer) : Type 0 where
-  pub answers : r ≡ (let decided = decideReading t (decode store₀ .slots) random reading in record { decision = decided; length = length (locationFor registry query random decided) })
+  pub answers :
+      let decided = decideReading t (decode store₀ .slots) random reading in
+      r ≡ record { decision = decided; length = length (locationFor registry query random decided) }
   pub writes : output₁ ≡ sets output₀ 0 (locationFor registry query random (decideReading t (decode store₀ .slots) random reading))
   pub leaves : decode store₁ ≡ slotsOn t (decode store₀) random reading

@@ -1,11 +1,13 @@
 -- Laws of the location's parts, and of texts that are written one behind the other.
 --
--- In order: a text with a text behind it; a byte that a list holds; the separator; the length of each part; the state,
--- one law for each way out of the code.
+-- In order: a text with a text behind it; a byte that a list holds; the separator; the parameters; the state, one law
+-- for each way out of the code; the whole.
+--
+-- Not here: the error words (`Rattle.error_words.proofs.Words`); how a value is written (`form_coding`).
 -- Assumes nothing.
-use Prim.Native.Nat.{ℕ, zero, suc, _+_, _*_, _<_, _≤_}
+use Prim.Native.Nat.{ℕ, suc, _+_, _<_, _≤_}
 use mathlib.Core.Path.{_≡_, refl, sym, ap, _∙_}
-use mathlib.Core.Bool.{Bool, true, false, cond, _&&_, _||_, true≢false, false≢true}
+use mathlib.Core.Bool.{Bool, true, false, cond, _||_, true≢false, false≢true}
 use mathlib.Core.List.{List, [], _∷_, _++_}
 use native.Mathlib.Omega.{arith}
 use borrow.Author.Tests.{leb-true, lt-ltb, le-ltb}
@@ -29,6 +31,7 @@ use Rattle.error_words.proofs.Words.{word-length}
 
 -- ---- a text, and a text behind it
 
+-- the text was written from `at` on, and `next` is where it ends
 pub record Written (b₀ b₁ : List ℕ) (at next : ℕ) (text : List ℕ) : Type 0 where
   pub next-is : next ≡ at + length text
   pub bytes-are : b₁ ≡ sets b₀ at text
@@ -112,24 +115,17 @@ sound-length state e = leb-true (length state) 200 (and-left (leb (length state)
 nothing : (b : List ℕ) (at : ℕ) → Written b b at at []
 nothing b at = record { next-is = omega arith; bytes-are = refl }
 
-module _ (b : List ℕ) (at : ℕ) (v : Value) where
-  pub state-missing : isMissing v ≡ true → Written b b at at (stateText v)
-  unfolding isMissing stateText
-  state-missing e = by v e
-    where
-      by : (v : Value) → isMissing v ≡ true → Written b b at at (stateText v)
-      by missing e = nothing b at
-      by (once x) e = absurd (false≢true e)
-      by repeated e = nothing b at
+pub state-missing : (b : List ℕ) (at : ℕ) (v : Value) → isMissing v ≡ true → Written b b at at (stateText v)
+unfolding isMissing stateText
+state-missing b at missing e = nothing b at
+state-missing b at (once x) e = absurd (false≢true e)
+state-missing b at repeated e = nothing b at
 
-  pub state-repeated : isRepeated v ≡ true → Written b b at at (stateText v)
-  unfolding isRepeated stateText
-  state-repeated e = by v e
-    where
-      by : (v : Value) → isRepeated v ≡ true → Written b b at at (stateText v)
-      by missing e = nothing b at
-      by (once x) e = absurd (false≢true e)
-      by repeated e = nothing b at
+pub state-repeated : (b : List ℕ) (at : ℕ) (v : Value) → isRepeated v ≡ true → Written b b at at (stateText v)
+unfolding isRepeated stateText
+state-repeated b at missing e = nothing b at
+state-repeated b at (once x) e = absurd (false≢true e)
+state-repeated b at repeated e = nothing b at
 
 -- what came once is its value
 pub came-once : (v : Value) → isMissing v ≡ false → isRepeated v ≡ false → once (valueOf v) ≡ v

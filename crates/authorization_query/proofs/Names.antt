@@ -1,11 +1,16 @@
--- Laws of the places of a query's names: what each says, and that it lies within the query.
+-- Laws of the places of a query's names.
+--
+-- In order: a query that refusal 5 does not apply to; what the reader finds; what each place says, and that it lies
+-- within the query.
+--
+-- Not here: what is made of it (`Reading`); the reader of a form (`form`, `View` and `Answers`).
 -- Assumes nothing.
 use Prim.Native.Nat.{ℕ, _<_, _≤_}
 use mathlib.Core.Path.{_≡_, refl, ap, _∙_}
 use mathlib.Core.Bool.{Bool, true, false, not, _||_, true≢false}
 use mathlib.Core.List.{List, []}
 use native.Mathlib.Omega.{arith}
-use borrow.Author.Tests.{ltb-false, le-ltb, not-false}
+use borrow.Author.Tests.{ltb-false, le-ltb}
 use lib.Dec.{ltb, lit<}
 use lib.ListN.{length, getD}
 use Rattle.octets.specs.Text.{bytes}
@@ -30,14 +35,9 @@ pub or-right : (a b : Bool) → (a || b) ≡ false → b ≡ false
 or-right true b e = absurd (true≢false e)
 or-right false b e = e
 
-module _ (query : List ℕ) (good : isBadQuery query ≡ false) where
-  pub good-short : length query ≤ 4096
-  unfolding isBadQuery
-  good-short = ltb-false 4096 (length query) (or-left (ltb 4096 (length query)) (not (isWellFormedForm query)) good)
-
-  pub good-formed : isWellFormedForm query ≡ true
-  unfolding isBadQuery
-  good-formed = not-false (isWellFormedForm query) (or-right (ltb 4096 (length query)) (not (isWellFormedForm query)) good)
+pub good-short : (query : List ℕ) → isBadQuery query ≡ false → length query ≤ 4096
+unfolding isBadQuery
+good-short query good = ltb-false 4096 (length query) (or-left (ltb 4096 (length query)) (not (isWellFormedForm query)) good)
 
 pub good-query : (query : List ℕ) → length query ≤ 4096 → isWellFormedForm query ≡ true → isBadQuery query ≡ false
 unfolding isBadQuery

@@ -5,16 +5,16 @@
 --
 -- Not here: what the places of a query say (`Names`).
 -- Assumes nothing.
-use Prim.Native.Nat.{ℕ, _<_, _≤_}
+use Prim.Native.Nat.{ℕ, _<_}
 use mathlib.Core.Path.{_≡_, refl, sym, ap, subst, _∙_}
-use mathlib.Core.Bool.{Bool, true, false, cond, not, _&&_, _||_, true≢false, or-true}
+use mathlib.Core.Bool.{Bool, true, false, cond, not, _&&_, _||_, or-true}
 use mathlib.Core.List.{List, []}
 use native.Mathlib.Omega.{arith}
 use borrow.Author.Tests.{lt-ltb, eq-eqb, ne-eqb, not-false}
-use lib.Dec.{ltb, eqb}
+use lib.Dec.{ltb}
 use lib.ListN.{length, getD}
 use Rattle.octets.specs.Text.{bytes}
-use Rattle.octets.specs.Lists.{every, inClass}
+use Rattle.octets.specs.Lists.{every}
 use Rattle.form.specs.Content.{Value, missing, once, repeated, isWellFormedForm, formValue}
 use Rattle.form.specs.Places.{unseen, placesOf}
 use Rattle.client_registry.specs.Registry.{Client as RegisteredClient, clientsOf, fitRegistry}
@@ -22,13 +22,13 @@ use Rattle.client_registry.specs.Lookup.{numberOf, isKnown, clientAt, entryOf, 
 use Rattle.client_registry.specs.declared.Entry.{Entry}
 use Rattle.client_registry.specs.declared.FoundClient.the-variants.{At, Unknown}
 use Rattle.client_registry.proofs.Fields.{id-text}
-use Rattle.client_registry.proofs.Clients.{SoundClient, fit-client}
+use Rattle.client_registry.proofs.Clients.{fit-client}
 use Rattle.client_registry.proofs.Lookup.{known-id, known-below, entry-of, find-unknown}
 use Rattle.protocol.specs.declared.ErrorWord.the-variants.{InvalidRequest, UnsupportedResponseType, InvalidScope, AccessDenied}
 use Rattle.protocol.specs.declared.PageCause.{PageCause}
 use Rattle.protocol.specs.declared.PageCause.the-variants.{Query, Client, RedirectUri}
-use Rattle.protocol.specs.declared.Refusal.the-variants.{Redirect, ErrorPage as PageRefusal}
-use Rattle.protocol.specs.Requests.{isMissing, isRepeated, valueOf, isOnce, scopeAsked, fits, scopeGiven, authorize, Reading, refused, asks}
+use Rattle.protocol.specs.declared.Refusal.the-variants.{ErrorPage as PageRefusal}
+use Rattle.protocol.specs.Requests.{isMissing, isRepeated, valueOf, isOnce, scopeAsked, fits, scopeGiven, refused}
 use Rattle.protocol.specs.Authorization.{isBadQuery, queryClient, isBadClient, isBadRedirect, isSoundState, isBadState, isInvalidRequest, isOtherType, isInvalidScope, readAuthorization}
 use Rattle.authorization_query.specs.declared.Asked.{Asked}
 use Rattle.authorization_query.specs.declared.Asked.the-variants.{Error, Code}

@@ -66,7 +66,7 @@ fn is_bad_state(query: &[u8], state: Place) -> bool
     form_values::is_repeated(query, state) | !sound
 }
 
-// Whether response_type is missing, or one of the names that are not about the client came in a way it must not.
+// Whether response_type is missing, it, scope or state is repeated, or the state is none that is sent back.
 fn is_invalid_request(query: &[u8], places: [Place; PLACES]) -> bool
     requires { ⌜ IsRead (now query) places ⌝ }
     ensures { λ r. ⌜ r ≡ isInvalidRequest (now (query .entry)) ⌝ }

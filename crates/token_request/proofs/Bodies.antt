@@ -1,7 +1,7 @@
 -- Laws of a body: where its seven names stand, and when it is refused before its client is looked at.
 --
--- In order: a list that is passed over for an element that passes; the names' places; whether a name is repeated; the
--- refusal.
+-- In order: one element further in search of one that passes, and two lists that agree; the places of the seven names;
+-- the refusal.
 --
 -- Not here: what a place says of its name (`form`, `Answers`).
 -- Assumes nothing.

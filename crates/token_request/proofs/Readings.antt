@@ -1,6 +1,6 @@
--- Laws of a reading: which part of protocol's `readToken` each way through the code comes to, and that a request is its
--- reading.
+-- Laws of a reading: which part of protocol's `readToken` each way through the code comes to.
 --
+-- In order: a call, by its body and its client; the request of a client, by its grant; that a request is its reading.
 -- Assumes nothing.
 use mathlib.Core.Path.{_≡_, refl}
 use mathlib.Core.Bool.{Bool, true, false, cond}

@@ -11,7 +11,7 @@ use protocol::Refusal;
 use protocol::ScopeAsked;
 use request_values::MOST_FORM;
 ghost use mathlib.Core.Path.{_≡_};
-ghost use mathlib.Core.Bool.{true, false};
+ghost use mathlib.Core.Bool.{true};
 ghost use Prim.Native.Nat.{_≤_};
 ghost use lib.ListN.{length};
 ghost use Rattle.encoding.specs.Hex.{readHandle};

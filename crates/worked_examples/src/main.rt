@@ -1,5 +1,7 @@
 // worked_examples: runs the examples of the papers and of the RFCs through the proved code, and writes what it finds.
 // The file `stdout` has what the papers say.
+mod visit;
+
 use encoding::Decoded;
 use form::Count;
 use form::Outcome;
@@ -215,4 +217,5 @@ fn main() {
     handle_cases();
     form_cases();
     scope_cases();
+    visit::run();
 }

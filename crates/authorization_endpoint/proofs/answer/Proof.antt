@@ -7,21 +7,29 @@ use Rattle.authorization_endpoint.proofs.Serving.{few, redirect-short, 
 use Rattle.authorization_endpoint.proofs.answer.Statement.{statement}
 use Rattle.authorization_endpoint.proofs.answer.Tie as tie
 
+abbrev entry : tie.After-struct-known → tie.Start
+entry c = c .before .before .before .before .before .before .before .before
+
 cast-number : tie.Need-cast-number
-cast-number c = let start = c .before .before .before .before .before .before .before .before in record { fits = few _ _ (start .args .asking) (start .pre .0) (start .pre .1) }
+cast-number c =
+    let start = entry c in
+    record { fits = few _ _ (start .args .asking) (start .pre .0) (start .pre .1) }
 
 decide-requires : tie.Need-decide-requires
-decide-requires c κs = let start = c .before .before .before .before .before .before .before .before .before in (start .pre .2, start .pre .3, start .pre .4)
+decide-requires c κs = let p = entry (c .before) .pre in (p .2, p .3, p .4)
 
 redirect-requires : tie.Need-redirect-requires
-redirect-requires c κs = let start = c .before .before .before .before .before .before .before .before .before .before .before .before in (start .pre .0, start .pre .1 .entry)
+redirect-requires c κs = let p = entry (c .before .before .before .before) .pre in (p .0, p .1 .entry)
 
 write-location-requires : tie.Need-write-location-requires
 write-location-requires c κs =
-    let start = c .before .before .before .before .before .before .before .before .before .before .before .before .before .before in
-    let a = start .args in
-    let short : length (c .before .redirect .result .now) ≤ 200 = rw (c .before .redirect .ensures) (redirect-short _ _ (a .asking) (start .pre .0) (start .pre .1)) in
-    (start .pre .5, short, start .pre .4, start .pre .1 .within, start .pre .1 .short)
+    let address = c .before in
+    let start = entry (address .before .before .before .before .before) in
+    let p = start .pre in
+    let short : length (address .redirect .result .now) ≤ 200 =
+    rw (address .redirect .ensures) (redirect-short _ _ (start .args .asking) (p .0) (p .1))
+    in
+    (p .5, short, p .4, p .1 .within, p .1 .short)
 
 same-length : tie.Need-same-length
 same-length c = search needs
@@ -31,14 +39,17 @@ same-length-2 c = search needs
 
 returns : tie.Need-returns
 returns c =
-    let start = c .before .before .before .before .before .before .before .before .before .before .before .before .before .before .before .before .before in
+    let wrote = c .before .before in
+    let address = wrote .before .before in
+    let decided = address .before .before .before in
+    let start = entry (decided .before .before) in
     let a = start .args in
-    let decided = c .before .before .before .before .before .before .before .decide in
-    let wrote = c .before .before .write-location in
+    let d = decided .decide in
+    let w = wrote .write-location in
     served-known (a .registry .now) (a .query .now) (a .asking) (start .pre .0) (start .pre .1) (a .t) (a .random .now) (start .pre .4)
     (askedReading (a .asking .client .number) (a .asking .asked)) (a .store .now) _ (a .output .now) _
-    (c .before .before .before .before .redirect .result .now) (c .before .before .before .before .redirect .ensures) (decided .result) (decided .ensures .0) (decided .ensures .1)
-    (wrote .result) (wrote .ensures .0) (wrote .ensures .1)
+    (address .redirect .result .now) (address .redirect .ensures) (d .result) (d .ensures .0) (d .ensures .1)
+    (w .result) (w .ensures .0) (w .ensures .1)
 
 pub answer-spec : {M : Type 1} → statement M
 answer-spec =

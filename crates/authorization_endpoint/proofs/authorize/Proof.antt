@@ -6,6 +6,7 @@ use native.Mathlib.Omega.{arith}
 use lib.ListN.{length}
 use Rattle.octets.specs.Lists.{Bytes}
 use Rattle.token_store.specs.Layout.{storeSize, handleSize}
+use Rattle.protocol.specs.declared.Decision.{Decision}
 use Rattle.protocol.specs.declared.Decision.the-variants.{Grant}
 use Rattle.protocol.specs.Outcomes.{unfitBuffers, admit}
 use Rattle.admission.proofs.Admitting.{Admitted, admitted, store-size, time-early}
@@ -13,19 +14,26 @@ use Rattle.authorization_endpoint.proofs.Serving.{buffers, buffers-fit,
 use Rattle.authorization_endpoint.proofs.authorize.Statement.{statement}
 use Rattle.authorization_endpoint.proofs.authorize.Tie as tie
 
--- what admission says, by the sizes of the buffers
-judged : (c : tie.After-admit)
-    → let a = c .before .before .before .before .before .before .before .args in c .admit .result ≡ admit (unfitBuffers handleSize (a .random .now) (a .output .now)) (a .registry .now) (a .store .now) (a .clock)
-judged c =
-    let a = c .before .before .before .before .before .before .before .args in
-    c .admit .ensures ∙ ap (λ (unfit : Bool). admit unfit (a .registry .now) (a .store .now) (a .clock)) (buffers (a .random .now) (a .output .now))
+abbrev entry : tie.After-admit → tie.Start
+entry c = c .before .before .before .before .before .before .before
 
-passed : (c : tie.After-enum-told)
-    → let a = c .before .before .before .before .before .before .before .before .before .args in Grant ≡ admit (unfitBuffers handleSize (a .random .now) (a .output .now)) (a .registry .now) (a .store .now) (a .clock)
+-- what is unfit of the buffers, and what admission says of the whole
+abbrev unfit : tie.Start → Bool
+unfit s = unfitBuffers handleSize (s .args .random .now) (s .args .output .now)
+
+abbrev verdict : tie.Start → Decision
+verdict s = admit (unfit s) (s .args .registry .now) (s .args .store .now) (s .args .clock)
+
+judged : (c : tie.After-admit) → c .admit .result ≡ verdict (entry c)
+judged c =
+    let a = entry c .args in
+    c .admit .ensures
+    ∙ ap (λ (q : Bool). admit q (a .registry .now) (a .store .now) (a .clock)) (buffers (a .random .now) (a .output .now))
+
+passed : (c : tie.After-enum-told) → Grant ≡ verdict (entry (c .before .before))
 passed c = sym (c .enum-told .given .1) ∙ judged (c .before .before)
 
-past : (c : tie.After-enum-told)
-    → let a = c .before .before .before .before .before .before .before .before .before .args in Admitted (unfitBuffers handleSize (a .random .now) (a .output .now)) (a .registry .now) (a .store .now) (a .clock)
+past : (c : tie.After-enum-told) → let s = entry (c .before .before) in Admitted (unfit s) (s .args .registry .now) (s .args .store .now) (s .args .clock)
 past c = admitted _ _ _ _ (passed c)
 
 admit-requires : tie.Need-admit-requires
@@ -39,7 +47,7 @@ same-length c = search needs
 
 returns : tie.Need-returns
 returns c =
-    let a = c .before .before .before .before .before .before .before .before .before .before .args in
+    let a = entry (c .before .before .before) .args in
     outcome-refused (a .query .now) (a .decision) (a .farm) (a .registry .now) (a .store .now) (a .clock) (a .random .now) (a .output .now)
     _ (sym (c .before .admitted .given .1) ∙ judged (c .before .before .before))
 
@@ -51,12 +59,16 @@ begin-requires c κs = store-size (past (c .before))
 
 serve-requires : tie.Need-serve-requires
 serve-requires c κs =
-    let told = c .before .before .before .before .before .before in
-    let a = told .before .before .before .before .before .before .before .before .before .args in
-    let began = c .before .before .before .before .begin in
-    let early = time-early (past told) in
-    let fit = buffers-fit (a .random .now) (a .output .now) (past told .buffers) in
-    (past told .registry-fit, began .kept .0 ∙ store-size (past told), omega (arith, began .ensures .0, early, past told .early), fit .size, fit .room)
+    let begun = c .before .before .before .before in
+    let told = begun .before .before in
+    let a = entry (told .before .before) .args in
+    let fit = buffers-fit (a .random .now) (a .output .now) (past told .buffers) in (
+      past told .registry-fit,
+      begun .begin .kept .0 ∙ store-size (past told),
+      omega (arith, begun .begin .ensures .0, time-early (past told), past told .early),
+      fit .size,
+      fit .room,
+    )
 
 same-length-2 : tie.Need-same-length-2
 same-length-2 c = search needs
@@ -66,15 +78,17 @@ same-length-3 c = search needs
 
 returns-2 : tie.Need-returns-2
 returns-2 c =
-    let told = c .before .before .before .before .before .before .before .before .before .before .before in
-    let a = told .before .before .before .before .before .before .before .before .before .args in
-    let began = c .before .before .before .before .before .before .before .before .before .begin in
-    let served = c .before .before .before .before .serve in
-    let after = served .last .1 .1 .1 .1 .0 in
-    let size : length after ≡ storeSize = served .kept .1 .1 .1 .1 .0 ∙ began .kept .0 ∙ store-size (past told) in
+    let served = c .before .before .before .before in
+    let begun = served .before .before .before .before .before in
+    let told = begun .before .before in
+    let a = entry (told .before .before) .args in
+    let b = begun .begin in
+    let s = served .serve in
+    let after = s .last .1 .1 .1 .1 .0 in
+    let size : length after ≡ storeSize = s .kept .1 .1 .1 .1 .0 ∙ b .kept .0 ∙ store-size (past told) in
     let bytes : Bytes after = λ k. c .before .before .slice-known4 .given k .fits in
     outcome-served (a .query .now) (a .decision) (a .farm) (a .registry .now) (a .store .now) (a .clock) (a .random .now) (a .output .now)
-    (passed told) (began .result) (began .ensures .0) (began .last .0) (began .ensures .1) after _ (served .result) (served .ensures) size bytes
+    (passed told) (b .result) (b .ensures .0) (b .last .0) (b .ensures .1) after _ (s .result) (s .ensures) size bytes
 
 pub authorize-spec : {M : Type 1} → statement M
 authorize-spec =

@@ -8,9 +8,12 @@ use Rattle.authorization_endpoint.proofs.Serving.{served-page}
 use Rattle.authorization_endpoint.proofs.serve.Statement.{statement}
 use Rattle.authorization_endpoint.proofs.serve.Tie as tie
 
+abbrev entry : tie.After-asking → tie.Start
+entry c = c .before .before .before .before .before .before .before .before
+
 -- what was read is the query of this client
 read : (c : tie.After-asking)
-    → let a = c .before .before .before .before .before .before .before .before .args in readQuery (a .registry .now) (a .query .now) (a .decision) (a .farm) ≡ FromClient (c .asking .given .0 .0)
+    → let a = entry c .args in readQuery (a .registry .now) (a .query .now) (a .decision) (a .farm) ≡ FromClient (c .asking .given .0 .0)
 read c = sym (c .before .before .read-query .ensures) ∙ c .asking .given .1
 
 read-query-requires : tie.Need-read-query-requires
@@ -24,11 +27,12 @@ enum-known-asking c = search needs
 
 answer-requires : tie.Need-answer-requires
 answer-requires c κs =
-    let start = c .before .before .before .before .before .before .before .before .before .before .before in
+    let asked = c .before .before .before in
+    let start = entry asked in
     let a = start .args in
     let p = start .pre in
-    let asking = c .before .before .before .asking .given .0 .0 in
-    (p .0, known (a .registry .now) (a .query .now) (a .decision) (a .farm) (p .0) asking (read (c .before .before .before)), p .1, p .2, p .3, p .4)
+    let k = known (a .registry .now) (a .query .now) (a .decision) (a .farm) (p .0) (asked .asking .given .0 .0) (read asked) in
+    (p .0, k, p .1, p .2, p .3, p .4)
 
 returns : tie.Need-returns
 returns c =
@@ -45,9 +49,11 @@ same-length-2 c = search needs
 
 returns-2 : tie.Need-returns-2
 returns-2 c =
-    let a = c .before .before .before .before .before .before .before .before .before .before .before .before .before .before .before .before .args in
-    let asking = c .before .before .before .before .before .before .before .before .asking .given .0 .0 in
-    rw (← client-reading (a .registry .now) (a .query .now) (a .decision) (a .farm) asking (read (c .before .before .before .before .before .before .before .before))) (c .before .before .before .before .answer .ensures)
+    let answered = c .before .before .before .before in
+    let asked = answered .before .before .before .before in
+    let a = entry asked .args in
+    let e = client-reading (a .registry .now) (a .query .now) (a .decision) (a .farm) (asked .asking .given .0 .0) (read asked) in
+    rw (← e) (answered .answer .ensures)
 
 pub serve-spec : {M : Type 1} → statement M
 serve-spec =

@@ -25,9 +25,12 @@ same-length c = search needs
 
 returns : tie.Need-returns
 returns c =
-    let start = c .before .before .before .before .before .before .before .before .before .before .before in
+    let wrote = c .before .before in
+    let named = wrote .before .before .before .before in
+    let start = named .before .before .before .before .before in
     let a = start .args in
-    (refl, code-written (a .output .now) _ _ (a .at) (a .handle .now) (start .pre .0) (c .before .before .before .before .before .before .copy-at .ensures) (c .before .before .write-hex .ensures) .bytes-are)
+    let w = code-written (a .output .now) _ _ (a .at) (a .handle .now) (start .pre .0) (named .copy-at .ensures) (wrote .write-hex .ensures) in
+    (refl, w .bytes-are)
 
 pub write-code-spec : {M : Type 1} → statement M
 write-code-spec =

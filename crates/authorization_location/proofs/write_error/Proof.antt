@@ -22,9 +22,11 @@ same-length c = search needs
 
 returns : tie.Need-returns
 returns c =
-    let a = c .before .before .before .before .before .before .before .before .before .before .args in
-    let wrote = c .before .before .write-word in
-    let w = error-written (a .output .now) _ _ (a .at) (wrote .result) (a .word) (c .before .before .before .before .before .before .copy-at .ensures) (wrote .ensures .0) (wrote .ensures .1) in
+    let wrote = c .before .before in
+    let named = wrote .before .before .before .before in
+    let a = named .before .before .before .before .args in
+    let r = wrote .write-word in
+    let w = error-written (a .output .now) _ _ (a .at) (r .result) (a .word) (named .copy-at .ensures) (r .ensures .0) (r .ensures .1) in
     ((w .next-is, omega (arith, w .next-is, error-length (a .word))), w .bytes-are)
 
 pub write-error-spec : {M : Type 1} → statement M

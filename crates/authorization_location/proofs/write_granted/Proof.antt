@@ -2,7 +2,7 @@
 use borrow.Author.Needs.{needs}
 use Rattle.form.specs.Places.{viewOf}
 use Rattle.protocol.specs.Authorization.{codeParameter}
-use Rattle.authorization_location.proofs.Location.{Written, redirect-next, code-next, located}
+use Rattle.authorization_location.proofs.Location.{redirect-next, code-next, located}
 use Rattle.authorization_location.proofs.write_granted.Statement.{statement}
 use Rattle.authorization_location.proofs.write_granted.Tie as tie
 
@@ -20,13 +20,16 @@ same-length c = search needs
 
 returns : tie.Need-returns
 returns c =
-    let start = c .before .before .before .before .before .before .before .before .before .before .before .before .before .before .before .before in
+    let at-state = c .before .before in
+    let at-code = at-state .before .before .before .before in
+    let at-address = at-code .before .before .before .before in
+    let start = at-address .before .before .before .before .before .before in
     let a = start .args in
     let redirect = a .redirect .now in
     let handle = a .handle .now in
-    let address = c .before .before .before .before .before .before .before .before .before .before .write-redirect in
-    let code = c .before .before .before .before .before .before .write-code in
-    let state = c .before .before .write-state in
+    let address = at-address .write-redirect in
+    let code = at-code .write-code in
+    let state = at-state .write-state in
     located (a .output .now) _ _ _ (address .result) (code .result) (state .result) redirect (codeParameter handle)
     (viewOf (a .query .now) (a .state))
     (record { next-is = redirect-next redirect (address .result) (address .ensures .0); bytes-are = address .ensures .1 })

@@ -44,7 +44,10 @@ same-length-2 c = search needs
 
 returns-2 : tie.Need-returns-2
 unfolding locationText
-returns-2 c = rw (c .before .before .before .before .before .before .before .before .decision .given .1, c .before .before .before .before .before .refusal .given .1) (c .before .before .write-refused .ensures)
+returns-2 c =
+    let wrote = c .before .before in
+    let told = wrote .before .before .before in
+    rw (told .before .before .before .decision .given .1, told .refusal .given .1) (wrote .write-refused .ensures)
 
 returns-3 : tie.Need-returns-3
 unfolding locationText

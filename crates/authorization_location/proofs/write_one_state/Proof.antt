@@ -35,17 +35,22 @@ add-write-value c = search needs
 
 write-value-requires : tie.Need-write-value-requires
 write-value-requires c κs =
-    let start = c .before .before .before .before .before .before .before .before .before .before in
-    omega (arith, start .pre, sound-length (start .args .state .now) (sound (c .before .before .before .before .before .before)), c .before .before .before .copy-at .kept .0)
+    let named = c .before .before .before in
+    let past = named .before .before .before in
+    let start = past .before .before .before .before in
+    omega (arith, start .pre, sound-length (start .args .state .now) (sound past), named .copy-at .kept .0)
 
 same-length : tie.Need-same-length
 same-length c = search needs
 
 returns-2 : tie.Need-returns-2
 returns-2 c =
-    let a = c .before .before .before .before .before .before .before .before .before .before .before .before .before .args in
-    let wrote = c .before .before .write-value in
-    let w = state-sound (a .output .now) (a .at) (a .state .now) (sound (c .before .before .before .before .before .before .before .before .before)) _ _ (wrote .result) (c .before .before .before .before .before .before .copy-at .ensures) (wrote .ensures .0) (wrote .ensures .1) in
+    let wrote = c .before .before in
+    let named = wrote .before .before .before .before in
+    let past = named .before .before .before in
+    let a = past .before .before .before .before .args in
+    let r = wrote .write-value in
+    let w = state-sound (a .output .now) (a .at) (a .state .now) (sound past) _ _ (r .result) (named .copy-at .ensures) (r .ensures .0) (r .ensures .1) in
     (w .next-is, w .bytes-are)
 
 pub write-one-state-spec : {M : Type 1} → statement M

@@ -2,7 +2,7 @@
 use borrow.Author.Needs.{needs}
 use Rattle.form.specs.Places.{viewOf}
 use Rattle.protocol.specs.Authorization.{errorParameter}
-use Rattle.authorization_location.proofs.Location.{Written, redirect-next, located}
+use Rattle.authorization_location.proofs.Location.{redirect-next, located}
 use Rattle.authorization_location.proofs.write_refused.Statement.{statement}
 use Rattle.authorization_location.proofs.write_refused.Tie as tie
 
@@ -20,11 +20,14 @@ same-length c = search needs
 
 returns : tie.Need-returns
 returns c =
-    let a = c .before .before .before .before .before .before .before .before .before .before .before .before .before .before .before .args in
+    let at-state = c .before .before in
+    let at-error = at-state .before .before .before .before in
+    let at-address = at-error .before .before .before .before in
+    let a = at-address .before .before .before .before .before .args in
     let redirect = a .redirect .now in
-    let address = c .before .before .before .before .before .before .before .before .before .before .write-redirect in
-    let error = c .before .before .before .before .before .before .write-error in
-    let state = c .before .before .write-state in
+    let address = at-address .write-redirect in
+    let error = at-error .write-error in
+    let state = at-state .write-state in
     located (a .output .now) _ _ _ (address .result) (error .result) (state .result) redirect (errorParameter (a .word))
     (viewOf (a .query .now) (a .state))
     (record { next-is = redirect-next redirect (address .result) (address .ensures .0); bytes-are = address .ensures .1 })

@@ -1,6 +1,6 @@
 -- The front of the buffer is the value of a state that came once.
 use borrow.Author.Needs.{needs}
-use mathlib.Core.Path.{_≡_, sym, _∙_}
+use mathlib.Core.Path.{sym, _∙_}
 use Rattle.form.specs.Places.{viewOf}
 use Rattle.protocol.specs.Requests.{valueOf}
 use Rattle.request_values.proofs.Buffers.{Front, front-value}
@@ -54,13 +54,15 @@ same-length c = search needs
 
 returns-3 : tie.Need-returns-3
 returns-3 c =
-    let v = c .before .before .before .before .before .before in
-    let a = start v .args in
-    let past = v .before .before in
-    let came = came-once (viewOf (a .query .now) (a .state)) (sym (past .before .before .before .is-missing .ensures) ∙ past .before .before .if1 .left)
-    (sym (past .before .is-repeated .ensures) ∙ past .if2 .left)
+    let filled = c .before .before .before .before .before .before in
+    let a = start filled .args in
+    let single = filled .before .before in
+    let present = single .before .before in
+    let came =
+    came-once (viewOf (a .query .now) (a .state)) (sym (present .before .is-missing .ensures) ∙ present .if1 .left)
+    (sym (single .before .is-repeated .ensures) ∙ single .if2 .left)
     in
-    rw (decoded v .text, came) at (c .before .before .write-one-state .ensures)
+    rw (decoded filled .text, came) at (c .before .before .write-one-state .ensures)
 
 pub write-state-spec : {M : Type 1} → statement M
 write-state-spec =

@@ -2,7 +2,7 @@
 use borrow.Author.Needs.{needs}
 use borrow.Author.Tests.{not-true, not-false}
 use mathlib.Core.Path.{_≡_, sym, ap, _∙_}
-use mathlib.Core.Bool.{true, false}
+use mathlib.Core.Bool.{Bool, true, false}
 use Rattle.octets.specs.Text.{bytes}
 use Rattle.form.specs.Content.{formValue}
 use Rattle.protocol.specs.declared.ScopeAsked.{ScopeAsked}
@@ -13,27 +13,43 @@ use Rattle.authorization_query.proofs.Reading.{ask-invalid, ask-other, 
 use Rattle.authorization_query.proofs.ask.Statement.{statement}
 use Rattle.authorization_query.proofs.ask.Tie as tie
 
-valid : (c : tie.Else1) → isInvalidRequest (c .before .before .before .args .query .now) ≡ false
+abbrev entry : tie.Else1 → tie.Start
+entry c = c .before .before .before
+
+-- whether the response type is `code`, and the scope that is asked for
+abbrev isCode : tie.Start → Bool
+isCode s = isOnce (bytes "code") (formValue (s .args .query .now) (bytes "response_type"))
+
+abbrev scopeIn : tie.Start → ScopeAsked
+scopeIn s = scopeAsked (formValue (s .args .query .now) (bytes "scope"))
+
+valid : (c : tie.Else1) → isInvalidRequest (entry c .args .query .now) ≡ false
 valid c = sym (c .before .is-invalid-request .ensures) ∙ c .if1 .left
 
-once : (c : tie.After-is-once) → isOnce (bytes "code") (formValue (c .before .before .before .before .before .before .args .query .now) (bytes "response_type")) ≡ c .is-once .result
-once c = ap (isOnce (bytes "code")) (sym (type-said _ _ (c .before .before .before .before .before .before .pre))) ∙ sym (c .is-once .ensures)
+once : (c : tie.After-is-once) → isCode (entry (c .before .before .before)) ≡ c .is-once .result
+once c = ap (isOnce (bytes "code")) (sym (type-said _ _ (entry (c .before .before .before) .pre))) ∙ sym (c .is-once .ensures)
 
-code : (c : tie.Else2) → isOnce (bytes "code") (formValue (c .before .before .before .before .before .before .before .args .query .now) (bytes "response_type")) ≡ true
+code : (c : tie.Else2) → isCode (entry (c .before .before .before .before)) ≡ true
 code c = once (c .before) ∙ not-false _ (c .if2 .left)
 
-asked : (c : tie.After-scope-asked) → c .scope-asked .result ≡ scopeAsked (formValue (c .before .before .before .before .before .before .before .before .before .args .query .now) (bytes "scope"))
-asked c = c .scope-asked .ensures ∙ ap scopeAsked (scope-said _ _ (c .before .before .before .before .before .before .before .before .before .pre))
+asked : (c : tie.After-scope-asked) → c .scope-asked .result ≡ scopeIn (entry (c .before .before .before .before .before .before))
+asked c = c .scope-asked .ensures ∙ ap scopeAsked (scope-said _ _ (entry (c .before .before .before .before .before .before) .pre))
 
-fitting : (c : tie.After-scope-fits)
-    → let a = c .before .before .before .before .before .before .before .before .before .before .args in fits (scopeAsked (formValue (a .query .now) (bytes "scope"))) (a .held) ≡ c .scope-fits .result
-fitting c = ap (λ (s : ScopeAsked). fits s (c .before .before .before .before .before .before .before .before .before .before .args .held)) (sym (asked (c .before))) ∙ sym (c .scope-fits .ensures)
+fitting : (c : tie.After-scope-fits) → let s = entry (c .before .before .before .before .before .before .before) in fits (scopeIn s) (s .args .held) ≡ c .scope-fits .result
+fitting c =
+    let held = entry (c .before .before .before .before .before .before .before) .args .held in
+    ap (λ (s : ScopeAsked). fits s held) (sym (asked (c .before))) ∙ sym (c .scope-fits .ensures)
+
+within : (c : tie.Else3) → let s = entry (c .before .before .before .before .before .before .before .before) in fits (scopeIn s) (s .args .held) ≡ true
+within c = fitting (c .before) ∙ not-false _ (c .if3 .left)
 
 is-invalid-request-requires : tie.Need-is-invalid-request-requires
 is-invalid-request-requires c κs = search needs
 
 returns : tie.Need-returns
-returns c = let a = c .before .before .before .args in ask-invalid (a .held) (a .query .now) (a .decision) (a .farm) (sym (c .before .is-invalid-request .ensures) ∙ c .if1 .taken)
+returns c =
+    let a = c .before .before .before .args in
+    ask-invalid (a .held) (a .query .now) (a .decision) (a .farm) (sym (c .before .is-invalid-request .ensures) ∙ c .if1 .taken)
 
 array-copy-out-kind : tie.Need-array-copy-out-kind
 array-copy-out-kind c = search needs
@@ -42,12 +58,13 @@ slice-aggregate-is-once : tie.Need-slice-aggregate-is-once
 slice-aggregate-is-once c = search needs
 
 is-once-requires : tie.Need-is-once-requires
-is-once-requires c κs = let r = c .before .before .before .before .before .pre in place-within _ _ r 0
+is-once-requires c κs = place-within _ _ (c .before .before .before .before .before .pre) 0
 
 returns-2 : tie.Need-returns-2
 returns-2 c =
-    let a = c .before .before .before .before .before .before .before .args in
-    ask-other (a .held) (a .query .now) (a .decision) (a .farm) (valid (c .before .before .before .before)) (once (c .before) ∙ not-true _ (c .if2 .taken))
+    let sound = c .before .before .before .before in
+    let a = entry sound .args in
+    ask-other (a .held) (a .query .now) (a .decision) (a .farm) (valid sound) (once (c .before) ∙ not-true _ (c .if2 .taken))
 
 array-copy-out-scope : tie.Need-array-copy-out-scope
 array-copy-out-scope c = search needs
@@ -60,13 +77,18 @@ scope-fits-requires c κs = search needs
 
 returns-3 : tie.Need-returns-3
 returns-3 c =
-    let a = c .before .before .before .before .before .before .before .before .before .before .before .args in
-    ask-scope (a .held) (a .query .now) (a .decision) (a .farm) (valid (c .before .before .before .before .before .before .before .before)) (code (c .before .before .before .before)) (fitting (c .before) ∙ not-true _ (c .if3 .taken))
+    let typed = c .before .before .before .before in
+    let sound = typed .before .before .before .before in
+    let a = entry sound .args in
+    ask-scope (a .held) (a .query .now) (a .decision) (a .farm) (valid sound) (code typed) (fitting (c .before) ∙ not-true _ (c .if3 .taken))
 
 returns-4 : tie.Need-returns-4
 returns-4 c =
-    let a = c .before .before .before .before .before .before .before .before .before .before .before .before .args in
-    ask-denied (a .held) (a .query .now) (a .decision) (a .farm) (valid (c .before .before .before .before .before .before .before .before .before)) (code (c .before .before .before .before .before)) (fitting (c .before .before) ∙ not-false _ (c .before .if3 .left)) (c .if4 .taken)
+    let fitted = c .before in
+    let typed = fitted .before .before .before .before in
+    let sound = typed .before .before .before .before in
+    let a = entry sound .args in
+    ask-denied (a .held) (a .query .now) (a .decision) (a .farm) (valid sound) (code typed) (within fitted) (c .if4 .taken)
 
 array-copy-out-redirect : tie.Need-array-copy-out-redirect
 array-copy-out-redirect c = search needs
@@ -79,9 +101,14 @@ is-missing-requires c κs = search needs
 
 returns-5 : tie.Need-returns-5
 returns-5 c =
-    let a = c .before .before .before .before .before .before .before .before .before .before .before .before .before .before .before .args in
-    rw (c .before .scope-given .ensures, asked (c .before .before .before .before .before .before), c .is-missing .ensures, redirect-said _ _ (c .before .before .before .before .before .before .before .before .before .before .before .before .before .before .before .pre))
-    (ask-allowed (a .held) (a .query .now) (a .decision) (a .farm) (valid (c .before .before .before .before .before .before .before .before .before .before .before .before)) (code (c .before .before .before .before .before .before .before .before)) (fitting (c .before .before .before .before .before) ∙ not-false _ (c .before .before .before .before .if3 .left)) (c .before .before .before .if4 .left))
+    let allowed = c .before .before .before in
+    let fitted = allowed .before in
+    let typed = fitted .before .before .before .before in
+    let sound = typed .before .before .before .before in
+    let start = entry sound in
+    let a = start .args in
+    rw (c .before .scope-given .ensures, asked (fitted .before .before), c .is-missing .ensures, redirect-said _ _ (start .pre))
+    (ask-allowed (a .held) (a .query .now) (a .decision) (a .farm) (valid sound) (code typed) (within fitted) (allowed .if4 .left))
 
 pub ask-spec : {M : Type 1} → statement M
 ask-spec =

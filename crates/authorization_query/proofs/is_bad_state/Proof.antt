@@ -7,12 +7,14 @@ use Rattle.authorization_query.proofs.Reading.{bad-state}
 use Rattle.authorization_query.proofs.is_bad_state.Statement.{statement}
 use Rattle.authorization_query.proofs.is_bad_state.Tie as tie
 
+abbrev entry : tie.After-value-into → tie.Start
+entry c = c .before .before .before
+
 decoded : (c : tie.After-value-into)
-    → let a = c .before .before .before .args in
-    Front (c .value-into .last .1 .1 .0) (c .value-into .result) (valueOf (viewOf (a .query .now) (a .state)))
+    → let a = entry c .args in Front (c .value-into .last .1 .1 .0) (c .value-into .result) (valueOf (viewOf (a .query .now) (a .state)))
 decoded c =
-    let start = c .before .before .before in
-    front-value (start .args .query .now) (start .args .state) (start .pre .1) _ _ (c .value-into .ensures .0) (c .value-into .ensures .1)
+    let s = entry c in
+    front-value (s .args .query .now) (s .args .state) (s .pre .1) _ _ (c .value-into .ensures .0) (c .value-into .ensures .1)
 
 slice-aggregate-value-into : tie.Need-slice-aggregate-value-into
 slice-aggregate-value-into c = search needs
@@ -33,7 +35,10 @@ is-repeated-requires : tie.Need-is-repeated-requires
 is-repeated-requires c κs = search needs
 
 returns : tie.Need-returns
-returns c = rw (c .is-repeated .ensures, c .before .is-sound-state .ensures, decoded (c .before .before .before .before) .text) (bad-state (viewOf (c .before .before .before .before .before .before .before .args .query .now) (c .before .before .before .before .before .before .before .args .state)))
+returns c =
+    let filled = c .before .before .before .before in
+    let a = entry filled .args in
+    rw (c .is-repeated .ensures, c .before .is-sound-state .ensures, decoded filled .text) (bad-state (viewOf (a .query .now) (a .state)))
 
 pub is-bad-state-spec : {M : Type 1} → statement M
 is-bad-state-spec =

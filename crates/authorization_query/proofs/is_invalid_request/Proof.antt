@@ -24,13 +24,15 @@ is-repeated-requires-2 : tie.Need-is-repeated-requires-2
 is-repeated-requires-2 c κs = search needs
 
 is-bad-state-requires : tie.Need-is-bad-state-requires
-is-bad-state-requires c κs = let start = c .before .before .before .before .before .before .before in (place-within _ _ (start .pre) 4, good-short _ (start .pre .good))
+is-bad-state-requires c κs = let r = c .before .before .before .before .before .before .before .pre in (place-within _ _ r 4, good-short _ (r .good))
 
 returns : tie.Need-returns
 unfolding isInvalidRequest
 returns c =
-    let r = c .before .before .before .before .before .before .before .before .pre in
-    rw (c .before .before .before .is-missing .ensures, c .before .before .is-repeated .ensures, c .before .is-repeated2 .ensures, c .is-bad-state .ensures, type-said _ _ r, scope-said _ _ r, state-said _ _ r)
+    let at-missing = c .before .before .before in
+    let r = at-missing .before .before .before .before .before .pre in
+    rw (at-missing .is-missing .ensures, c .before .before .is-repeated .ensures, c .before .is-repeated2 .ensures, c .is-bad-state .ensures)
+    (rw (type-said _ _ r, scope-said _ _ r, state-said _ _ r))
 
 pub is-invalid-request-spec : {M : Type 1} → statement M
 is-invalid-request-spec =

@@ -25,16 +25,19 @@ enum-told-2 c = search needs
 returns-2 : tie.Need-returns-2
 returns-2 c =
     let a = c .before .before .before .before .before .before .before .args in
+    let read = c .before .before .read in
     read-malformed (a .registry .now) (a .query .now) (a .decision) (a .farm)
-    (told-malformed queryNames (a .query .now) (c .before .before .read .result) (c .before .before .read .ensures .0) (c .enum-told2 .given .1))
+    (told-malformed queryNames (a .query .now) (read .result) (read .ensures .0) (c .enum-told2 .given .1))
 
 read-places-requires : tie.Need-read-places-requires
 read-places-requires c κs =
-    let start = c .before .before .before .before .before .before .before .before in
+    let at-read = c .before .before .before in
+    let short = at-read .before .before in
+    let start = short .before .before .before in
     let query = start .args .query .now in
-    let read = c .before .before .before .read in
-    let formed = told-well-formed queryNames query (read .result) (read .ensures .0) (c .before .enum-told .given .1) in
-    (start .pre, record { good = good-query query (c .before .before .before .before .before .if1 .left) formed; found = found-places query (read .result) (read .ensures .0) formed })
+    let r = at-read .read in
+    let formed = told-well-formed queryNames query (r .result) (r .ensures .0) (c .before .enum-told .given .1) in
+    (start .pre, record { good = good-query query (short .if1 .left) formed; found = found-places query (r .result) (r .ensures .0) formed })
 
 returns-3 : tie.Need-returns-3
 returns-3 c = search needs

@@ -1,7 +1,5 @@
 -- The word's row is copied, as much of it as the word fills.
 use borrow.Author.Needs.{needs}
-use Prim.Native.Nat.{_≤_}
-use mathlib.Core.Path.{_≡_, _∙_, ap}
 use native.Mathlib.Omega.{arith}
 use native.Mathlib.Nat.{add-sub-cancel-left}
 use Rattle.error_words.proofs.Words.{Row, row}
@@ -40,10 +38,16 @@ part-copy-at-end : tie.Need-part-copy-at-end
 part-copy-at-end c = let r = at-row (c .before .before) in omega (arith, r .most, r .count, r .short)
 
 copy-at-requires : tie.Need-copy-at-requires
-copy-at-requires c κs = let r = at-row (c .before .before .before) in rw (add-sub-cancel-left, r .count, r .text) (omega (arith, r .short, c .before .before .before .before .before .pre))
+copy-at-requires c κs =
+    let numbered = c .before .before .before in
+    let r = at-row numbered in
+    rw (add-sub-cancel-left, r .count, r .text) (omega (arith, r .short, numbered .before .before .pre))
 
 add-result : tie.Need-add-result
-add-result c = let r = at-row (c .before .before .before .before .before .before) in omega (arith, r .count, r .short, c .before .before .before .before .before .before .before .before .pre)
+add-result c =
+    let numbered = c .before .before .before .before .before .before in
+    let r = at-row numbered in
+    omega (arith, r .count, r .short, numbered .before .before .pre)
 
 same-length : tie.Need-same-length
 same-length c = search needs

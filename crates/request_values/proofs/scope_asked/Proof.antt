@@ -1,11 +1,10 @@
 -- A scope that came once is read from the front of the buffer, which holds its value.
 use borrow.Author.Needs.{needs}
 use mathlib.Core.Path.{_≡_, sym, ap, _∙_}
-use mathlib.Core.Bool.{false}
 use Rattle.form.specs.Places.{viewOf}
 use Rattle.scope.specs.Value.{readScope}
 use Rattle.scope.specs.declared.ScopeValue.{ScopeValue}
-use Rattle.protocol.specs.Requests.{isMissing, isRepeated, valueOf, askedBy, scopeAsked}
+use Rattle.protocol.specs.Requests.{valueOf, askedBy, scopeAsked}
 use Rattle.request_values.proofs.Buffers.{Front, front-value}
 use Rattle.request_values.proofs.Scopes.{asked-missing, asked-repeated, asked-once}
 use Rattle.request_values.proofs.scope_asked.Statement.{statement}

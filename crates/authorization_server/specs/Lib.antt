@@ -1,0 +1,2 @@
+-- authorization_server: the numbers in which a C host sees an answer.
+pub mod Numbers

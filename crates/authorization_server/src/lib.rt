@@ -1,0 +1,108 @@
+// authorization_server: the three endpoints as a C host calls them. Numbers and byte slices in, numbers and bytes out.
+//
+// No function here asks anything of its caller: unfit buffers, registry, store and clock get refusals 1 to 4.
+// include/poplarchime.h declares what is exported.
+mod numbers;
+
+ghost use mathlib.Core.Path.{_≡_};
+ghost use Rattle.protocol.specs.Outcomes.{authorizationOutcome, tokenOutcome, checkOutcome};
+ghost use Rattle.authorization_server.specs.Numbers.{authorizationReply, tokenReply, checkReply};
+
+// What the authorization endpoint answers, in numbers. `refusal` is 0 or 1 to 7, `error` the number of an error word or 0,
+// `length` how many bytes of location were written.
+#[repr(C)]
+pub struct AuthorizationReply {
+    pub refusal: u32,
+    pub error: u32,
+    pub length: usize,
+}
+
+// What the token endpoint answers, in numbers. `refusal` is 0 or 1 to 4, `status` the HTTP status, `error` the number of an
+// error word or 0, `challenge` whether to send WWW-Authenticate, `length` how many bytes of reply were written.
+#[repr(C)]
+pub struct TokenReply {
+    pub refusal: u32,
+    pub status: u32,
+    pub error: u32,
+    pub challenge: u32,
+    pub length: usize,
+}
+
+// What the access token check answers, in numbers. `refusal` is 0 or 2 to 4; `live` is 1 or 0; the rest is 0 unless it is 1.
+#[repr(C)]
+pub struct CheckReply {
+    pub refusal: u32,
+    pub live: u32,
+    pub client: u32,
+    pub farm: u32,
+    pub scope: u32,
+    pub secondsleft: u64,
+}
+
+// The authorization endpoint: a query, the owner's decision (1 allows the farm, any other number denies), 20 random bytes.
+#[no_mangle]
+pub extern "C" fn poplarchime_authorize(
+    query: &[u8],
+    decision: u64,
+    farm: u32,
+    registry: &[u8],
+    store: &mut [u8],
+    clock: u64,
+    random: &[u8],
+    output: &mut [u8],
+) -> AuthorizationReply
+    ensures answer { λ r. ⌜ r ≡ authorizationReply (authorizationOutcome (now (query .entry)) decision farm (now (registry .entry)) (now (store .entry)) clock (now (random .entry)) (now (output .entry)) .answer) ⌝ }
+    ensures output { λ _. ⌜ now (output .exit) ≡ authorizationOutcome (now (query .entry)) decision farm (now (registry .entry)) (now (store .entry)) clock (now (random .entry)) (now (output .entry)) .output ⌝ }
+    ensures store { λ _. ⌜ now (store .exit) ≡ authorizationOutcome (now (query .entry)) decision farm (now (registry .entry)) (now (store .entry)) clock (now (random .entry)) (now (output .entry)) .store ⌝ }
+{
+    numbers::authorization_reply(authorization_endpoint::authorize(
+        query,
+        decision,
+        farm,
+        registry,
+        store,
+        clock,
+        random,
+        output,
+    ))
+}
+
+// The token endpoint: the Authorization field's value, empty when there is none; a body; 40 random bytes.
+#[no_mangle]
+pub extern "C" fn poplarchime_token(
+    header: &[u8],
+    body: &[u8],
+    registry: &[u8],
+    store: &mut [u8],
+    clock: u64,
+    random: &[u8],
+    output: &mut [u8],
+) -> TokenReply
+    ensures answer { λ r. ⌜ r ≡ tokenReply (tokenOutcome (now (header .entry)) (now (body .entry)) (now (registry .entry)) (now (store .entry)) clock (now (random .entry)) (now (output .entry)) .answer) ⌝ }
+    ensures output { λ _. ⌜ now (output .exit) ≡ tokenOutcome (now (header .entry)) (now (body .entry)) (now (registry .entry)) (now (store .entry)) clock (now (random .entry)) (now (output .entry)) .output ⌝ }
+    ensures store { λ _. ⌜ now (store .exit) ≡ tokenOutcome (now (header .entry)) (now (body .entry)) (now (registry .entry)) (now (store .entry)) clock (now (random .entry)) (now (output .entry)) .store ⌝ }
+{
+    numbers::token_reply(token_endpoint::token(
+        header,
+        body,
+        registry,
+        store,
+        clock,
+        random,
+        output,
+    ))
+}
+
+// The access token check: a bare access token.
+#[no_mangle]
+pub extern "C" fn poplarchime_check(
+    token: &[u8],
+    registry: &[u8],
+    store: &mut [u8],
+    clock: u64,
+) -> CheckReply
+    ensures answer { λ r. ⌜ r ≡ checkReply (checkOutcome (now (token .entry)) (now (registry .entry)) (now (store .entry)) clock .answer) ⌝ }
+    ensures store { λ r. ⌜ now (store .exit) ≡ checkOutcome (now (token .entry)) (now (registry .entry)) (now (store .entry)) clock .store ⌝ }
+{
+    numbers::check_reply(token_check::check(token, registry, store, clock))
+}

@@ -1,0 +1,324 @@
+/*
+ * A host in C that plays the papers' visit from end to end: two apps ask for a farm's readings.
+ *
+ * It shows each request and answer, and holds each answer to what the papers say. The last line is
+ * 'N passed, M failed', and the exit status is 0 only if M is 0. `examples/run` builds and runs it.
+ *
+ * So that the answers are always the same, the random bytes count up from a number and the clock is made up. A real host
+ * takes the bytes from getrandom(2) and the clock from time(NULL), locks the store for each call and keeps it on disk
+ * before it replies (docs/HOST.md).
+ */
+#include <inttypes.h>
+#include <stdio.h>
+#include <string.h>
+
+#include "poplarchime.h"
+
+/* The sizes that the archive was built with, on x86-64. */
+_Static_assert(sizeof(struct poplarchime_authorization) == 16, "struct poplarchime_authorization");
+_Static_assert(sizeof(struct poplarchime_token_reply) == 24, "struct poplarchime_token_reply");
+_Static_assert(sizeof(struct poplarchime_check_answer) == 32, "struct poplarchime_check_answer");
+
+static int passed, failed;
+
+/* ---- What a host keeps ---- */
+
+struct host {
+    uint8_t registry[POPLARCHIME_CONFIDENTIAL_RECORD_SIZE + POPLARCHIME_PUBLIC_RECORD_SIZE];
+    size_t registry_length;
+    uint8_t store[POPLARCHIME_STORE_SIZE];
+    uint8_t output[POPLARCHIME_LEAST_OUTPUT];
+};
+
+/* A field of a record: length, text, zeros up to the width. The registry is zero before. */
+static void add_text(struct host *host, const char *text, size_t width)
+{
+    uint8_t *field = host->registry + host->registry_length;
+    field[0] = (uint8_t)strlen(text);
+    memcpy(field + 1, text, strlen(text));
+    host->registry_length += 1 + width;
+}
+
+/* A client without secret is public. */
+static void add_client(struct host *host, const char *id, const char *redirect, uint8_t scope, const char *secret)
+{
+    host->registry[host->registry_length++] = secret ? 2 : 1;
+    add_text(host, id, POPLARCHIME_ID_LIMIT);
+    add_text(host, redirect, POPLARCHIME_REDIRECT_LIMIT);
+    host->registry[host->registry_length++] = scope;
+    if (secret)
+        add_text(host, secret, POPLARCHIME_SECRET_LIMIT);
+}
+
+/* The two sample clients, and a fresh store. */
+static void start(struct host *host)
+{
+    memset(host, 0, sizeof *host);
+    add_client(host, "s6BhdRkqt3", "https://client.example.com/cb",
+               POPLARCHIME_SCOPE_POWER + POPLARCHIME_SCOPE_PEAK + POPLARCHIME_SCOPE_BILL, "gX1fBat3bV");
+    add_client(host, "barnapp", "https://barn.example/r?x=1", POPLARCHIME_SCOPE_POWER, NULL);
+}
+
+static void count_up(uint8_t *bytes, size_t length, uint8_t first)
+{
+    for (size_t i = 0; i < length; i++)
+        bytes[i] = (uint8_t)(first + i);
+}
+
+/* ---- Showing and judging ---- */
+
+static void title(const char *text)
+{
+    static int number;
+    printf("\n%d. %s\n", ++number, text);
+}
+
+static void judge(int right, const char *expected)
+{
+    if (right) {
+        passed++;
+        printf("   ok\n");
+    } else {
+        failed++;
+        printf("   WRONG, should be: %s\n", expected);
+    }
+}
+
+static int same(const uint8_t *bytes, size_t length, const char *text)
+{
+    return length == strlen(text) && memcmp(bytes, text, length) == 0;
+}
+
+/* ---- The three endpoints, as a host calls them ---- */
+
+#define FARM 7
+
+static struct poplarchime_authorization call_authorize(struct host *host, const char *query, uint64_t decision,
+                                                       uint64_t clock, uint8_t random_from)
+{
+    uint8_t random[POPLARCHIME_AUTHORIZE_RANDOM];
+    count_up(random, sizeof random, random_from);
+    printf("   clock %" PRIu64 ", the owner %s\n", clock, decision == POPLARCHIME_ALLOW ? "allows farm 7" : "denies");
+    printf("   > GET /authorize?%s\n", query);
+    return poplarchime_authorize((const uint8_t *)query, strlen(query), decision, FARM,
+                                 host->registry, host->registry_length, host->store, sizeof host->store,
+                                 clock, random, sizeof random, host->output, sizeof host->output);
+}
+
+/* The answer must be a redirect to this location; error is the number of the word in it, 0 for a code. */
+static void redirects(struct host *host, const char *query, uint64_t decision, uint64_t clock, uint8_t random_from,
+                      uint32_t error, const char *location)
+{
+    struct poplarchime_authorization answer = call_authorize(host, query, decision, clock, random_from);
+    if (answer.refusal != POPLARCHIME_NOT_REFUSED)
+        printf("   < refusal %" PRIu32 "\n", answer.refusal);
+    else
+        printf("   < 302, Location: %.*s\n", (int)answer.length, (const char *)host->output);
+    judge(answer.refusal == POPLARCHIME_NOT_REFUSED && answer.error == error
+              && same(host->output, answer.length, location), location);
+}
+
+/* There must be no redirect, for this reason. */
+static void shows_page(struct host *host, const char *query, uint32_t refusal, const char *reason)
+{
+    struct poplarchime_authorization answer = call_authorize(host, query, POPLARCHIME_ALLOW, 1000, 0x00);
+    printf("   < refusal %" PRIu32 ": the host answers 400 with a page of its own\n", answer.refusal);
+    judge(answer.refusal == refusal && answer.error == 0 && answer.length == 0, reason);
+}
+
+/* The answer must have this status, challenge and body. */
+static void replies(struct host *host, const char *header, const char *body, uint64_t clock, uint8_t random_from,
+                    uint32_t status, uint32_t challenge, const char *expected)
+{
+    uint8_t random[POPLARCHIME_TOKEN_RANDOM];
+    count_up(random, sizeof random, random_from);
+    printf("   clock %" PRIu64 "\n   > POST /token\n", clock);
+    if (header[0])
+        printf("   >   Authorization: %s\n", header);
+    printf("   >   %s\n", body);
+    struct poplarchime_token_reply reply =
+        poplarchime_token((const uint8_t *)header, strlen(header), (const uint8_t *)body, strlen(body),
+                          host->registry, host->registry_length, host->store, sizeof host->store,
+                          clock, random, sizeof random, host->output, sizeof host->output);
+    if (reply.refusal != POPLARCHIME_NOT_REFUSED)
+        printf("   < refusal %" PRIu32 "\n", reply.refusal);
+    printf("   < %" PRIu32 "%s\n", reply.status, reply.challenge ? ", WWW-Authenticate: Basic" : "");
+    if (reply.length)
+        printf("   <   %.*s\n", (int)reply.length, (const char *)host->output);
+    judge(reply.refusal == POPLARCHIME_NOT_REFUSED && reply.status == status && reply.challenge == challenge
+              && same(host->output, reply.length, expected), expected);
+}
+
+static struct poplarchime_check_answer call_check(struct host *host, const char *token, uint64_t clock)
+{
+    printf("   clock %" PRIu64 "\n   > check %s\n", clock, token);
+    return poplarchime_check((const uint8_t *)token, strlen(token), host->registry, host->registry_length,
+                             host->store, sizeof host->store, clock);
+}
+
+/* The token must be live for this client, farm 7 and scope. */
+static void is_live(struct host *host, const char *token, uint64_t clock, uint32_t client, uint32_t scope,
+                    uint64_t seconds_left)
+{
+    struct poplarchime_check_answer answer = call_check(host, token, clock);
+    printf("   < live %" PRIu32 ": client %" PRIu32 ", farm %" PRIu32 ", scope set %" PRIu32 ", %" PRIu64
+           " seconds left\n", answer.live, answer.client, answer.farm, answer.scope, answer.seconds_left);
+    judge(answer.refusal == POPLARCHIME_NOT_REFUSED && answer.live == 1 && answer.client == client
+              && answer.farm == FARM && answer.scope == scope && answer.seconds_left == seconds_left, "live");
+}
+
+static void is_not_live(struct host *host, const char *token, uint64_t clock)
+{
+    struct poplarchime_check_answer answer = call_check(host, token, clock);
+    printf("   < live %" PRIu32 "\n", answer.live);
+    judge(answer.refusal == POPLARCHIME_NOT_REFUSED && answer.live == 0 && answer.client == 0 && answer.farm == 0
+              && answer.scope == 0 && answer.seconds_left == 0, "not live");
+}
+
+/* ---- The visit ---- */
+
+#define QUERY \
+    "response_type=code&client_id=s6BhdRkqt3&state=xyz&redirect_uri=https%3A%2F%2Fclient%2Eexample%2Ecom%2Fcb"
+#define BASIC "Basic czZCaGRSa3F0MzpnWDFmQmF0M2JW"
+#define CODE "000102030405060708090a0b0c0d0e0f10111213"
+#define ACCESS "202122232425262728292a2b2c2d2e2f30313233"
+#define REFRESH "3435363738393a3b3c3d3e3f4041424344454647"
+#define EXCHANGE_OF(code) \
+    "grant_type=authorization_code&code=" code "&redirect_uri=https%3A%2F%2Fclient%2Eexample%2Ecom%2Fcb"
+#define EXCHANGE EXCHANGE_OF(CODE)
+#define TOKENS_FOR(scope) \
+    "{\"access_token\":\"" ACCESS "\",\"token_type\":\"Bearer\",\"expires_in\":3600," \
+    "\"refresh_token\":\"" REFRESH "\",\"scope\":\"" scope "\"}"
+#define INVALID_GRANT "{\"error\":\"invalid_grant\"}"
+#define INVALID_CLIENT "{\"error\":\"invalid_client\"}"
+
+static void confidential_client(struct host *host)
+{
+    start(host);
+    title("The owner allows the request: a code");
+    redirects(host, QUERY, POPLARCHIME_ALLOW, 1000, 0x00, POPLARCHIME_NO_ERROR,
+              "https://client.example.com/cb?code=" CODE "&state=xyz");
+    title("The owner denies another one");
+    redirects(host, QUERY, POPLARCHIME_DENY, 1000, 0x00, POPLARCHIME_ACCESS_DENIED,
+              "https://client.example.com/cb?error=access_denied&state=xyz");
+    title("The client exchanges the code, with its secret in the header");
+    replies(host, BASIC, EXCHANGE, 1100, 0x20, 200, 0, TOKENS_FOR("power peak bill"));
+    title("The portal checks the access token");
+    is_live(host, ACCESS, 1200, 0, 11, 3500);
+    title("The client refreshes it, for less scope");
+    replies(host, BASIC, "grant_type=refresh_token&refresh_token=" REFRESH "&scope=bill+power", 1300, 0x50, 200, 0,
+            "{\"access_token\":\"505152535455565758595a5b5c5d5e5f60616263\",\"token_type\":\"Bearer\","
+            "\"expires_in\":3600,\"scope\":\"power bill\"}");
+    is_live(host, "505152535455565758595a5b5c5d5e5f60616263", 1300, 0, 9, 3600);
+    title("Somebody shows the code again");
+    replies(host, BASIC, EXCHANGE, 1300, 0x80, 400, 0, INVALID_GRANT);
+    title("The access token runs out after an hour; a clock that goes back does not revive it");
+    is_live(host, ACCESS, 4699, 0, 11, 1);
+    is_not_live(host, ACCESS, 4700);
+    is_not_live(host, ACCESS, 1200);
+}
+
+static void time_that_never_goes_back(struct host *host)
+{
+    start(host);
+    title("A code issued at 1000 ...");
+    redirects(host, QUERY, POPLARCHIME_ALLOW, 1000, 0x00, POPLARCHIME_NO_ERROR,
+              "https://client.example.com/cb?code=" CODE "&state=xyz");
+    title("... is still live at 1599 (tried on a copy of the store) ...");
+    struct host copy = *host;
+    replies(&copy, BASIC, EXCHANGE, 1599, 0x20, 200, 0, TOKENS_FOR("power peak bill"));
+    title("... and has run out at 1600. Any call at 1600 will do, then the clock goes back to 1100");
+    is_not_live(host, "any token", 1600);
+    replies(host, BASIC, EXCHANGE, 1100, 0x20, 400, 0, INVALID_GRANT);
+    title("A code issued next, with the clock at 1100, lives until 2200: 600 from the highest clock seen");
+    redirects(host, QUERY, POPLARCHIME_ALLOW, 1100, 0x60, POPLARCHIME_NO_ERROR,
+              "https://client.example.com/cb?code=606162636465666768696a6b6c6d6e6f70717273&state=xyz");
+    copy = *host;
+    replies(&copy, BASIC, EXCHANGE_OF("606162636465666768696a6b6c6d6e6f70717273"), 2199, 0x20, 200, 0,
+            TOKENS_FOR("power peak bill"));
+    replies(host, BASIC, EXCHANGE_OF("606162636465666768696a6b6c6d6e6f70717273"), 2200, 0x20, 400, 0, INVALID_GRANT);
+}
+
+static void public_client(struct host *host)
+{
+    start(host);
+    title("The public client has no secret; its redirect has a query already");
+    redirects(host, "response_type=code&client_id=barnapp", POPLARCHIME_DENY, 1000, 0x00, POPLARCHIME_ACCESS_DENIED,
+              "https://barn.example/r?x=1&error=access_denied");
+    redirects(host, "response_type=code&client_id=barnapp", POPLARCHIME_ALLOW, 1000, 0x00, POPLARCHIME_NO_ERROR,
+              "https://barn.example/r?x=1&code=" CODE);
+    title("Another client cannot exchange its code, and the try spends nothing");
+    replies(host, BASIC, "grant_type=authorization_code&code=" CODE, 1000, 0x20, 400, 0, INVALID_GRANT);
+    title("A header is not for public clients");
+    replies(host, "Basic YmFybmFwcDo=", "grant_type=authorization_code&code=" CODE, 1000, 0x20, 401, 1, INVALID_CLIENT);
+    title("It names itself in the body");
+    replies(host, "", "grant_type=authorization_code&code=" CODE "&client_id=barnapp", 1000, 0x20, 200, 0,
+            TOKENS_FOR("power"));
+    is_live(host, ACCESS, 1000, 1, 1, 3600);
+}
+
+static void bad_requests(struct host *host)
+{
+    start(host);
+    title("A redirect that was never registered: no redirect at all");
+    shows_page(host, "response_type=code&client_id=barnapp&redirect_uri=https%3A%2F%2Fevil.example%2F",
+               POPLARCHIME_REFUSED_REDIRECT, "redirect_uri is not the registered one");
+    title("A client that nobody knows");
+    shows_page(host, "response_type=code&client_id=nobody", POPLARCHIME_REFUSED_CLIENT, "unknown client");
+    title("A malformed query");
+    shows_page(host, "response_type=code&client_id=barnapp&a=%4", POPLARCHIME_REFUSED_QUERY, "malformed query");
+    title("A scope with two spaces");
+    redirects(host, QUERY "&scope=power++bill", POPLARCHIME_ALLOW, 1000, 0x00, POPLARCHIME_INVALID_SCOPE,
+              "https://client.example.com/cb?error=invalid_scope&state=xyz");
+    title("A wrong secret in the body: no challenge, since no header came");
+    replies(host, "", "grant_type=refresh_token&client_id=s6BhdRkqt3&client_secret=wrong", 1000, 0x20, 401, 0,
+            INVALID_CLIENT);
+}
+
+/* What the host itself does wrong is refused with 1 to 4, and changes nothing. */
+static void refuses(const char *what, uint32_t refusal, uint32_t expected)
+{
+    char right[32];
+    snprintf(right, sizeof right, "refusal %" PRIu32, expected);
+    printf("   > %s\n   < refusal %" PRIu32 "\n", what, refusal);
+    judge(refusal == expected, right);
+}
+
+static void bad_hosts(struct host *host)
+{
+    start(host);
+    static const uint8_t fresh[POPLARCHIME_STORE_SIZE];
+    const uint8_t *query = (const uint8_t *)QUERY;
+    uint8_t random[POPLARCHIME_AUTHORIZE_RANDOM] = {0};
+    title("A host that makes mistakes");
+    refuses("an output of 1,023 bytes",
+            poplarchime_authorize(query, strlen(QUERY), POPLARCHIME_ALLOW, FARM, host->registry, host->registry_length,
+                                  host->store, sizeof host->store, 1000, random, sizeof random, host->output,
+                                  sizeof host->output - 1).refusal,
+            POPLARCHIME_REFUSED_BUFFERS);
+    refuses("no registry", poplarchime_check(NULL, 0, NULL, 0, host->store, sizeof host->store, 1000).refusal,
+            POPLARCHIME_REFUSED_REGISTRY);
+    refuses("half a store",
+            poplarchime_check(NULL, 0, host->registry, host->registry_length, host->store, sizeof host->store / 2,
+                              1000).refusal,
+            POPLARCHIME_REFUSED_STORE);
+    refuses("a clock beyond 2^40",
+            poplarchime_check(NULL, 0, host->registry, host->registry_length, host->store, sizeof host->store,
+                              POPLARCHIME_CLOCK_LIMIT + 1).refusal,
+            POPLARCHIME_REFUSED_CLOCK);
+    printf("   and the store is as it was\n");
+    judge(memcmp(host->store, fresh, sizeof fresh) == 0, "an untouched store");
+}
+
+int main(void)
+{
+    static struct host host;
+    printf("A visit to the authorization server.\n");
+    confidential_client(&host);
+    time_that_never_goes_back(&host);
+    public_client(&host);
+    bad_requests(&host);
+    bad_hosts(&host);
+    printf("\n%d passed, %d failed\n", passed, failed);
+    return failed == 0 ? 0 : 1;
+}

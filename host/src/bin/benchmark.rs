@@ -1,0 +1,254 @@
+//! How long the exported endpoints take, next to the plain program: `cargo run --offline --release --bin benchmark`.
+//!
+//! Both are measured in one process, turn and turn about, so that a busy machine slows both alike; the ratio is what counts.
+
+use std::hint::black_box;
+use std::time::Instant;
+
+use poplarchime_host::program::{Program, EXPORTS, PLAIN};
+use poplarchime_host::sample::{self, Client, Slot};
+
+const NOW: u64 = 1_000_000;
+const ROUNDS: usize = 101;
+/// Calls in a row; their time is taken together.
+const BATCH: usize = 40;
+
+/// Where the code and the refresh token stand, and the slot that has run out and is taken.
+const PRESENTED: usize = sample::SLOTS - 2;
+const VACANT: usize = sample::SLOTS - 1;
+
+/// A call that is made again and again.
+struct Case {
+    name: &'static str,
+    request: Request,
+    registry: Vec<u8>,
+    /// The store before each call.
+    store: Vec<u8>,
+}
+
+enum Request {
+    Check(String),
+    Authorize(String),
+    Token(Vec<u8>, String),
+}
+
+impl Case {
+    /// Makes the call. True if it was answered as the case means it to be.
+    fn call(&self, program: &Program, store: &mut [u8], output: &mut [u8]) -> bool {
+        let registry = black_box(&self.registry[..]);
+        match black_box(&self.request) {
+            Request::Check(token) => {
+                let expected = u32::from(!self.name.contains("nowhere"));
+                (program.check)(token.as_bytes(), registry, store, NOW).live == expected
+            }
+            Request::Authorize(query) => {
+                let random = &RANDOM[..20];
+                let answer = (program.authorize)(query.as_bytes(), 1, 7, registry, store, NOW, random, output);
+                answer.error == 0 && answer.length > 0
+            }
+            Request::Token(header, body) => {
+                (program.token)(header, body.as_bytes(), registry, store, NOW, &RANDOM, output).status == 200
+            }
+        }
+    }
+
+    /// Nanoseconds for one call, over a batch.
+    fn time(&self, program: &Program, store: &mut [u8], output: &mut [u8]) -> f64 {
+        let changed = sample::slot_range(PRESENTED).start..sample::STORE_SIZE;
+        let start = Instant::now();
+        for _ in 0..BATCH {
+            black_box(self.call(program, store, output));
+            store[changed.clone()].copy_from_slice(&self.store[changed.clone()]);
+        }
+        start.elapsed().as_nanos() as f64 / BATCH as f64
+    }
+}
+
+const RANDOM: [u8; 40] = {
+    let mut random = [0xf0; 40];
+    let mut at = 0;
+    while at < 40 {
+        random[at] = 0xc0 + at as u8;
+        at += 1;
+    }
+    random
+};
+
+/// Median nanoseconds of the exports and of the plain program, for every case.
+fn measure(cases: &[Case]) -> Vec<(f64, f64)> {
+    let mut turns: Vec<(usize, &Program)> = Vec::new();
+    for number in 0..cases.len() {
+        turns.extend([(number, &EXPORTS), (number, &PLAIN)]);
+    }
+    let mut stores: Vec<Vec<u8>> = turns.iter().map(|&(number, _)| cases[number].store.clone()).collect();
+    let mut output = vec![0; 1024];
+    for (turn, store) in turns.iter().zip(&stores) {
+        let answered = cases[turn.0].call(turn.1, &mut store.clone(), &mut output);
+        assert!(answered, "'{}' is not answered as it should be", cases[turn.0].name);
+    }
+    let mut times = vec![Vec::new(); turns.len()];
+    for round in 0..ROUNDS {
+        for step in 0..turns.len() {
+            // Each round begins one turn further on.
+            let turn = (round + step) % turns.len();
+            let (number, program) = turns[turn];
+            times[turn].push(cases[number].time(program, &mut stores[turn], &mut output));
+        }
+    }
+    times.chunks(2).map(|pair| (median(&pair[0]), median(&pair[1]))).collect()
+}
+
+fn median(times: &[f64]) -> f64 {
+    let mut sorted = times.to_vec();
+    sorted.sort_by(f64::total_cmp);
+    sorted[sorted.len() / 2]
+}
+
+// ---- registries and stores
+
+/// Confidential clients. Short fields are what a portal is likely to have; full ones are as long as they may be.
+fn clients(count: usize, full: bool) -> Vec<Client> {
+    let client = |number: usize| match full {
+        false => Client::confidential(
+            &format!("client-{number:02}"),
+            "a secret of 20 bytes",
+            &format!("https://app{number:02}.example/callback"),
+            255,
+        ),
+        true => Client {
+            id: format!("a client with a very long id {number:03}").into(),
+            redirect: format!("https://app{number:02}.example/{:r<177}", "").into(),
+            scope: 255,
+            secret: Some(vec![b's'; 64]),
+        },
+    };
+    (0..count).map(client).collect()
+}
+
+fn handle(number: usize) -> [u8; 20] {
+    let mut handle = [0x5a; 20];
+    handle[18..].copy_from_slice(&(number as u16).to_be_bytes());
+    handle
+}
+
+/// So many live access tokens from the first slot on.
+fn store(live: usize, clients: usize) -> Vec<u8> {
+    let mut store = sample::empty_store();
+    sample::set_latest(&mut store, NOW);
+    for number in 0..live {
+        let client = (number % clients) as u8;
+        let slot = Slot { kind: sample::ACCESS, handle: handle(number), client, farm: 7, scope: 9, expiry: NOW + 1 };
+        sample::set_slot(&mut store, number, slot);
+    }
+    store
+}
+
+fn check_case(name: &'static str, clients: &[Client], live: usize, token: usize) -> Case {
+    let request = Request::Check(sample::hex(&handle(token)));
+    Case { name, request, registry: sample::registry(clients), store: store(live, clients.len()) }
+}
+
+/// A store in which the last slot but one is presented and the last one has run out.
+fn issuing_store(clients: usize, live: usize, kind: u8) -> Vec<u8> {
+    let mut store = store(live, clients);
+    let last = Slot { client: clients as u8 - 1, handle: handle(PRESENTED), farm: 7, scope: 9, kind, expiry: NOW + 1 };
+    sample::set_slot(&mut store, PRESENTED, last);
+    if live > VACANT {
+        sample::set_slot(
+            &mut store,
+            VACANT,
+            Slot { kind: sample::ACCESS, handle: handle(VACANT), expiry: NOW, ..last },
+        );
+    }
+    store
+}
+
+fn authorize_case(clients: &[Client], live: usize) -> Case {
+    let last = clients.last().expect("a client");
+    let id: String = last.id.escape_ascii().to_string().replace(' ', "+");
+    let query = format!("response_type=code&client_id={id}&state=af0ifjsldkj&scope=power+bill");
+    let store = issuing_store(clients.len(), live, sample::ACCESS);
+    Case { name: "authorize", request: Request::Authorize(query), registry: sample::registry(clients), store }
+}
+
+fn token_case(name: &'static str, clients: &[Client], live: usize) -> Case {
+    let last = clients.last().expect("a client");
+    let header = sample::basic_header(&last.id, last.secret.as_ref().expect("a secret"));
+    let presented = sample::hex(&handle(PRESENTED));
+    let (kind, body) = match name {
+        "exchange" => (sample::CODE, format!("grant_type=authorization_code&code={presented}")),
+        _ => (sample::REFRESH, format!("grant_type=refresh_token&refresh_token={presented}&scope=power")),
+    };
+    let store = issuing_store(clients.len(), live, kind);
+    Case { name, request: Request::Token(header, body), registry: sample::registry(clients), store }
+}
+
+// ---- report
+
+fn main() {
+    if cfg!(debug_assertions) {
+        eprintln!("benchmark: measure with --release");
+        std::process::exit(2);
+    }
+    println!("Time for one call in microseconds: ours (the exports), plain (the second program), and ours / plain.");
+    println!();
+    println!("512 slots in use, 64 confidential clients:");
+    for full in [false, true] {
+        let clients = clients(64, full);
+        let live = sample::SLOTS;
+        let cases = [
+            check_case("check, token in the last slot", &clients, live, live - 1),
+            check_case("check, token nowhere", &clients, live, live),
+            authorize_case(&clients, live),
+            token_case("exchange", &clients, live),
+            token_case("refresh", &clients, live),
+        ];
+        println!();
+        println!(
+            "{:<32}{:>8}{:>8}{:>8}",
+            if full { "fields as long as may be" } else { "short fields" },
+            "ours",
+            "plain",
+            "ratio"
+        );
+        for (case, (ours, plain)) in cases.iter().zip(measure(&cases)) {
+            println!("{:<32}{:>8.2}{:>8.2}{:>8.2}", case.name, ours / 1e3, plain / 1e3, ours / plain);
+        }
+    }
+    growth("check, token nowhere", |clients, live| check_case("check, token nowhere", clients, live, sample::SLOTS));
+    growth("exchange", |clients, live| token_case("exchange", clients, live));
+    println!();
+    println!("Measured in one process and thread: {ROUNDS} rounds, in each of which every line of a table runs {BATCH} calls of");
+    println!(
+        "ours and {BATCH} of plain, each round starting one place further on; the figures are medians over the rounds."
+    );
+    println!("All slots are live but the ones that a call takes, which have run out and are put back after each call");
+    println!("(70 bytes, for both programs). The presented slot and the one taken are the last two, the client the last one.");
+    println!("Both programs are optimised for plain x86-64.");
+}
+
+/// How the time grows with slots in use and with clients.
+fn growth(name: &str, case: impl Fn(&[Client], usize) -> Case) {
+    const CLIENTS: [usize; 4] = [1, 8, 32, 64];
+    println!();
+    println!("{name}, short fields, ours (plain):");
+    println!(
+        "{:>13}{}",
+        "slots in use",
+        CLIENTS
+            .map(|clients| format!("{:>17}", format!("{clients} client{}", if clients == 1 { "" } else { "s" })))
+            .concat()
+    );
+    let live = [0, 128, 256, 512];
+    let mut cases = Vec::new();
+    for live in live {
+        cases.extend(CLIENTS.map(|count| case(&clients(count, false), live)));
+    }
+    for (live, times) in live.iter().zip(measure(&cases).chunks(CLIENTS.len())) {
+        let cells: String = times
+            .iter()
+            .map(|(ours, plain)| format!("{:>17}", format!("{:.2} ({:.2})", ours / 1e3, plain / 1e3)))
+            .collect();
+        println!("{live:>13}{cells}");
+    }
+}

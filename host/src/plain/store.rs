@@ -1,0 +1,156 @@
+//! The token store: the high-water mark of the clock, then 512 slots, worked on in place.
+
+use super::handle::{Handle, HANDLE_SIZE};
+use super::scope::ScopeSet;
+use super::CLOCK_LIMIT;
+
+pub const SLOTS: usize = 512;
+pub const TIME_SIZE: usize = 8;
+pub const SLOT_SIZE: usize = 35;
+pub const STORE_SIZE: usize = TIME_SIZE + SLOTS * SLOT_SIZE;
+
+// Where the fields of a slot begin, behind its kind.
+const HANDLE: usize = 1;
+const CLIENT: usize = HANDLE + HANDLE_SIZE;
+const FARM: usize = CLIENT + 1;
+const SCOPE: usize = FARM + 4;
+const EXPIRY: usize = SCOPE + 1;
+
+const FREE: u8 = 0;
+
+/// What a slot in use holds.
+#[derive(Clone, Copy, Debug, PartialEq, Eq)]
+pub enum Kind {
+    /// A code that was asked for without redirect_uri.
+    Code = 1,
+    /// A code that was asked for with redirect_uri; the exchange must repeat it.
+    BoundCode = 2,
+    Access = 3,
+    Refresh = 4,
+}
+
+impl Kind {
+    /// How long it lives from its issue, in seconds.
+    pub fn lifetime(self) -> u64 {
+        match self {
+            Kind::Code | Kind::BoundCode => 600,
+            Kind::Access => 3_600,
+            Kind::Refresh => 2_592_000,
+        }
+    }
+}
+
+/// What an issue grants: the client, the farm whose owner allowed it, and the scope.
+#[derive(Clone, Copy, Debug, PartialEq, Eq)]
+pub struct Grant {
+    pub client: usize,
+    pub farm: u32,
+    pub scope: ScopeSet,
+}
+
+/// A slot in use.
+#[derive(Clone, Copy, Debug, PartialEq, Eq)]
+pub struct Entry {
+    pub kind: Kind,
+    pub grant: Grant,
+    pub expiry: u64,
+}
+
+/// A fit store.
+pub struct Store<'a> {
+    bytes: &'a mut [u8; STORE_SIZE],
+}
+
+impl<'a> Store<'a> {
+    /// The store in these bytes, if they are fit for a registry of so many clients.
+    pub fn open(bytes: &'a mut [u8], clients: usize) -> Option<Store<'a>> {
+        let store = Store { bytes: bytes.try_into().ok()? };
+        let fit = store.latest() <= CLOCK_LIMIT && store.slots().all(|slot| is_fit(slot, clients));
+        fit.then_some(store)
+    }
+
+    /// The high-water mark: the latest time that any call has seen.
+    pub fn latest(&self) -> u64 {
+        big_endian_64(&self.bytes[..TIME_SIZE])
+    }
+
+    pub fn set_latest(&mut self, time: u64) {
+        self.bytes[..TIME_SIZE].copy_from_slice(&time.to_be_bytes());
+    }
+
+    /// The lowest slot of one of the kinds that has this handle, whether it has run out or not.
+    pub fn find(&self, kinds: &[Kind], handle: &Handle) -> Option<(usize, Entry)> {
+        let number = self
+            .slots()
+            .position(|slot| kinds.iter().any(|&kind| slot[0] == kind as u8) && slot[HANDLE..CLIENT] == handle[..])?;
+        Some((number, self.entry(number)?))
+    }
+
+    /// How many slots are free or have run out.
+    pub fn room(&self, now: u64) -> usize {
+        self.slots().filter(|slot| is_vacant(slot, now)).count()
+    }
+
+    /// Whether any slot in use, run out or not, has this handle.
+    pub fn has_handle(&self, handle: &Handle) -> bool {
+        self.slots().any(|slot| slot[0] != FREE && slot[HANDLE..CLIENT] == handle[..])
+    }
+
+    /// Fills the lowest slot that is free or has run out. There must be one.
+    pub fn issue(&mut self, kind: Kind, handle: &Handle, grant: &Grant, now: u64) {
+        let number = self.slots().position(|slot| is_vacant(slot, now)).expect("room was counted before");
+        let slot = self.slot_mut(number);
+        slot[0] = kind as u8;
+        slot[HANDLE..CLIENT].copy_from_slice(handle);
+        slot[CLIENT] = grant.client as u8;
+        slot[FARM..SCOPE].copy_from_slice(&grant.farm.to_be_bytes());
+        slot[SCOPE] = grant.scope.0;
+        slot[EXPIRY..].copy_from_slice(&(now + kind.lifetime()).to_be_bytes());
+    }
+
+    pub fn clear(&mut self, number: usize) {
+        self.slot_mut(number).fill(0);
+    }
+
+    fn slots(&self) -> std::slice::ChunksExact<'_, u8> {
+        self.bytes[TIME_SIZE..].chunks_exact(SLOT_SIZE)
+    }
+
+    fn slot_mut(&mut self, number: usize) -> &mut [u8] {
+        &mut self.bytes[TIME_SIZE + number * SLOT_SIZE..][..SLOT_SIZE]
+    }
+
+    fn entry(&self, number: usize) -> Option<Entry> {
+        let slot = &self.bytes[TIME_SIZE + number * SLOT_SIZE..][..SLOT_SIZE];
+        let kind = match slot[0] {
+            1 => Kind::Code,
+            2 => Kind::BoundCode,
+            3 => Kind::Access,
+            4 => Kind::Refresh,
+            _ => return None,
+        };
+        let farm = u32::from_be_bytes(slot[FARM..SCOPE].try_into().expect("four bytes"));
+        let grant = Grant { client: slot[CLIENT].into(), farm, scope: ScopeSet(slot[SCOPE]) };
+        Some(Entry { kind, grant, expiry: expiry(slot) })
+    }
+}
+
+fn is_fit(slot: &[u8], clients: usize) -> bool {
+    match slot[0] {
+        FREE => slot.iter().all(|&byte| byte == 0),
+        1..=4 => usize::from(slot[CLIENT]) < clients && slot[SCOPE] != 0,
+        _ => false,
+    }
+}
+
+fn is_vacant(slot: &[u8], now: u64) -> bool {
+    slot[0] == FREE || now >= expiry(slot)
+}
+
+fn expiry(slot: &[u8]) -> u64 {
+    big_endian_64(&slot[EXPIRY..])
+}
+
+fn big_endian_64(bytes: &[u8]) -> u64 {
+    u64::from_be_bytes(bytes.try_into().expect("eight bytes"))
+}

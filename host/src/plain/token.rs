@@ -1,0 +1,230 @@
+//! The token endpoint (RFC 6749 sections 2.3.1, 3.2, 4.1.3 to 5.2 and 6).
+
+use super::base64;
+use super::form::{Field, Form};
+use super::handle::{self, Handle, HANDLE_SIZE};
+use super::registry::Registry;
+use super::scope::ScopeSet;
+use super::store::{Entry, Grant, Kind};
+use super::{admit, write, Admitted, Unfit, FORM_LIMIT, LEAST_OUTPUT};
+use crate::answers::{ErrorWord, TokenReply};
+
+const HEADER_LIMIT: usize = 512;
+const KNOWN_NAMES: [&str; 7] =
+    ["grant_type", "code", "redirect_uri", "client_id", "client_secret", "refresh_token", "scope"];
+
+/// A well-formed request of an authenticated client.
+#[derive(Clone, Debug, PartialEq, Eq)]
+pub struct Request {
+    pub client: usize,
+    pub asked: Asked,
+}
+
+/// What is presented, as the form has it.
+#[derive(Clone, Debug, PartialEq, Eq)]
+pub enum Asked {
+    Exchange { code: Vec<u8>, redirect: Option<Vec<u8>> },
+    Refresh { token: Vec<u8>, scope: Option<Vec<u8>> },
+}
+
+/// Why a request gets no token.
+#[derive(Clone, Copy, Debug, PartialEq, Eq)]
+enum Denial {
+    Error(ErrorWord),
+    NoRoom,
+    Clash,
+}
+
+impl From<ErrorWord> for Denial {
+    fn from(word: ErrorWord) -> Denial {
+        Denial::Error(word)
+    }
+}
+
+pub fn token(
+    header: &[u8],
+    body: &[u8],
+    registry: &[u8],
+    store: &mut [u8],
+    clock: u64,
+    random: &[u8],
+    output: &mut [u8],
+) -> TokenReply {
+    let refused = |unfit: Unfit| TokenReply { refusal: unfit.number(), ..TokenReply::default() };
+    let Some(handles) = split_random(random) else {
+        return refused(Unfit::Buffers);
+    };
+    if output.len() < LEAST_OUTPUT {
+        return refused(Unfit::Buffers);
+    }
+    let mut admitted = match admit(registry, store, clock) {
+        Ok(admitted) => admitted,
+        Err(unfit) => return refused(unfit),
+    };
+    let granted = match Request::read(header, body, &admitted.registry) {
+        Ok(request) => request.grant(&mut admitted, &handles),
+        Err(word) => Err(word.into()),
+    };
+    match granted {
+        Ok(reply) => TokenReply { status: 200, length: write(reply.as_bytes(), output), ..TokenReply::default() },
+        Err(Denial::Error(word)) => error_reply(word, !header.is_empty(), output),
+        Err(Denial::NoRoom) => TokenReply { status: 503, ..TokenReply::default() },
+        Err(Denial::Clash) => TokenReply { status: 500, ..TokenReply::default() },
+    }
+}
+
+/// The two handles in the forty random bytes.
+fn split_random(random: &[u8]) -> Option<[Handle; 2]> {
+    let (first, second) = random.split_at_checked(HANDLE_SIZE)?;
+    Some([first.try_into().ok()?, second.try_into().ok()?])
+}
+
+fn error_reply(word: ErrorWord, header_came: bool, output: &mut [u8]) -> TokenReply {
+    let unauthorized = word == ErrorWord::InvalidClient;
+    TokenReply {
+        refusal: 0,
+        status: if unauthorized { 401 } else { 400 },
+        error: word.number(),
+        challenge: (unauthorized && header_came).into(),
+        length: write(format!("{{\"error\":\"{}\"}}", word.text()).as_bytes(), output),
+    }
+}
+
+impl Request {
+    /// Reads and authenticates. Every refusal that the papers list before `invalid_grant` is an error here.
+    pub fn read(header: &[u8], body: &[u8], registry: &Registry) -> Result<Request, ErrorWord> {
+        if body.len() > FORM_LIMIT {
+            return Err(ErrorWord::InvalidRequest);
+        }
+        let form = Form::read(body).map_err(|_| ErrorWord::InvalidRequest)?;
+        if KNOWN_NAMES.iter().any(|name| form.field(name) == Field::Repeated) {
+            return Err(ErrorWord::InvalidRequest);
+        }
+        let value = |name| form.field(name).value();
+        let grant_type = value("grant_type").ok_or(ErrorWord::InvalidRequest)?;
+        if !header.is_empty() && value("client_secret").is_some() {
+            return Err(ErrorWord::InvalidRequest);
+        }
+        let client = authenticate(header, value("client_id"), value("client_secret"), registry)
+            .ok_or(ErrorWord::InvalidClient)?;
+        let required = |name| value(name).map(<[u8]>::to_vec).ok_or(ErrorWord::InvalidRequest);
+        let optional = |name| value(name).map(<[u8]>::to_vec);
+        let asked = match grant_type {
+            b"authorization_code" => Asked::Exchange { code: required("code")?, redirect: optional("redirect_uri") },
+            b"refresh_token" => Asked::Refresh { token: required("refresh_token")?, scope: optional("scope") },
+            _ => return Err(ErrorWord::UnsupportedGrantType),
+        };
+        Ok(Request { client, asked })
+    }
+
+    /// Issues the tokens in the store and gives the reply.
+    fn grant(&self, admitted: &mut Admitted, handles: &[Handle; 2]) -> Result<String, Denial> {
+        match &self.asked {
+            Asked::Exchange { code, redirect } => self.exchange(code, redirect.as_deref(), admitted, handles),
+            Asked::Refresh { token, scope } => self.refresh(token, scope.as_deref(), admitted, &handles[0]),
+        }
+    }
+
+    fn exchange(
+        &self,
+        code: &[u8],
+        redirect: Option<&[u8]>,
+        admitted: &mut Admitted,
+        [access, refresh]: &[Handle; 2],
+    ) -> Result<String, Denial> {
+        let (number, entry) = self.find(&[Kind::Code, Kind::BoundCode], code, admitted)?;
+        let registered = admitted.registry.client(self.client).redirect;
+        if entry.kind == Kind::BoundCode && redirect != Some(registered) {
+            return Err(ErrorWord::InvalidGrant.into());
+        }
+        let Admitted { store, now, .. } = admitted;
+        // The code's own slot, live until now, counts as room; its handle still counts as in use.
+        let room = store.room(*now) + 1;
+        if room < 2 {
+            return Err(Denial::NoRoom);
+        }
+        if access == refresh || store.has_handle(access) || store.has_handle(refresh) {
+            return Err(Denial::Clash);
+        }
+        store.clear(number);
+        store.issue(Kind::Access, access, &entry.grant, *now);
+        store.issue(Kind::Refresh, refresh, &entry.grant, *now);
+        Ok(reply(access, Some(refresh), entry.grant.scope))
+    }
+
+    fn refresh(
+        &self,
+        token: &[u8],
+        scope: Option<&[u8]>,
+        admitted: &mut Admitted,
+        access: &Handle,
+    ) -> Result<String, Denial> {
+        let (_, entry) = self.find(&[Kind::Refresh], token, admitted)?;
+        let scope = match scope {
+            None => entry.grant.scope,
+            Some(value) => {
+                ScopeSet::parse(value).filter(|set| set.is_within(entry.grant.scope)).ok_or(ErrorWord::InvalidScope)?
+            }
+        };
+        let Admitted { store, now, .. } = admitted;
+        if store.room(*now) < 1 {
+            return Err(Denial::NoRoom);
+        }
+        if store.has_handle(access) {
+            return Err(Denial::Clash);
+        }
+        store.issue(Kind::Access, access, &Grant { scope, ..entry.grant }, *now);
+        Ok(reply(access, None, scope))
+    }
+
+    /// The live slot of this client that the presented text names.
+    fn find(&self, kinds: &[Kind], presented: &[u8], admitted: &Admitted) -> Result<(usize, Entry), ErrorWord> {
+        let handle = handle::parse(presented).ok_or(ErrorWord::InvalidGrant)?;
+        let (number, entry) = admitted.store.find(kinds, &handle).ok_or(ErrorWord::InvalidGrant)?;
+        if admitted.now >= entry.expiry || entry.grant.client != self.client {
+            return Err(ErrorWord::InvalidGrant);
+        }
+        Ok((number, entry))
+    }
+}
+
+/// The client whose id and secret are presented, in the header or in the body.
+fn authenticate(header: &[u8], id: Option<&[u8]>, secret: Option<&[u8]>, registry: &Registry) -> Option<usize> {
+    if header.is_empty() {
+        let client = registry.find(id?)?;
+        return (registry.client(client).secret == secret).then_some(client);
+    }
+    let credentials = basic_credentials(header)?;
+    let colon = credentials.iter().position(|&byte| byte == b':')?;
+    let (header_id, header_secret) = (&credentials[..colon], &credentials[colon + 1..]);
+    if id.is_some_and(|id| id != header_id) {
+        return None;
+    }
+    let client = registry.find(header_id)?;
+    (registry.client(client).secret == Some(header_secret)).then_some(client)
+}
+
+/// What a header of the Basic scheme (RFC 7617) holds.
+fn basic_credentials(header: &[u8]) -> Option<Vec<u8>> {
+    if header.len() > HEADER_LIMIT {
+        return None;
+    }
+    let (scheme, rest) = header.split_at_checked(5)?;
+    let encoded = rest.strip_prefix(b" ")?;
+    if !scheme.eq_ignore_ascii_case(b"Basic") {
+        return None;
+    }
+    base64::decode(encoded)
+}
+
+/// The body of a 200 (RFC 6749 section 5.1).
+fn reply(access: &Handle, refresh: Option<&Handle>, scope: ScopeSet) -> String {
+    let refresh = refresh.map_or(String::new(), |handle| format!("\"refresh_token\":\"{}\",", handle::text(handle)));
+    format!(
+        "{{\"access_token\":\"{}\",\"token_type\":\"Bearer\",\"expires_in\":{},{}\"scope\":\"{}\"}}",
+        handle::text(access),
+        Kind::Access.lifetime(),
+        refresh,
+        scope.text()
+    )
+}

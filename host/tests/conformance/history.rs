@@ -1,0 +1,372 @@
+//! Demand 3, run as a program over calls and answers alone.
+//!
+//! The judge keeps what the calls so far contain: which codes and tokens were issued, to whom, for how long, and which
+//! codes were exchanged. It never looks at the store. From that it says of every exchange, refresh and check whether it
+//! must succeed, and the exports' answers must be exactly so.
+
+use std::collections::HashSet;
+
+use poplarchime_host::plain::registry::Registry;
+use poplarchime_host::plain::scope::NAMES;
+use poplarchime_host::plain::token::Asked;
+use poplarchime_host::plain::{authorization, token};
+use poplarchime_host::program::EXPORTS;
+use poplarchime_host::sample;
+
+use crate::support::call::{Answer, Call, Request};
+use crate::support::compare::{keeps_demand_1, run, After};
+use crate::support::rng::Rng;
+use crate::support::tally::Tally;
+use crate::support::world::{random_clients, Start, World};
+
+const ROOM: usize = 512;
+
+#[derive(Clone, Copy, Debug, PartialEq, Eq)]
+enum What {
+    Code { bound: bool },
+    Access,
+    Refresh,
+}
+
+impl What {
+    fn lifetime(self) -> u64 {
+        match self {
+            What::Code { .. } => 600,
+            What::Access => 3_600,
+            What::Refresh => 2_592_000,
+        }
+    }
+}
+
+/// A code or token that a call answered with.
+#[derive(Clone, Debug)]
+struct Issue {
+    what: What,
+    /// As the answer had it.
+    text: String,
+    client: usize,
+    farm: u32,
+    /// The names, as a set.
+    scope: u8,
+    expiry: u64,
+    exchanged: bool,
+}
+
+impl Issue {
+    fn is_live(&self, now: u64) -> bool {
+        now < self.expiry
+    }
+}
+
+/// What a call must do, with the conditions of demand 3 that fail.
+#[derive(Debug, PartialEq, Eq)]
+enum Verdict {
+    /// Malformed, or the client is not admitted: it yields nothing.
+    NotAdmitted,
+    /// The demand does not say whether an authorization yields a code.
+    Unjudged,
+    Yields,
+    Refused(Vec<&'static str>),
+}
+
+#[derive(Default)]
+struct Judge {
+    /// The highest clock seen.
+    latest: u64,
+    issues: Vec<Issue>,
+    /// All twenties of random bytes that calls were handed.
+    random: HashSet<Vec<u8>>,
+}
+
+impl Judge {
+    fn now(&self, call: &Call) -> u64 {
+        self.latest.max(call.clock)
+    }
+
+    /// Whether the premise holds for one more call: its random bytes are new, and their halves differ.
+    fn is_within_premise(&self, call: &Call) -> bool {
+        let twenties: Vec<&[u8]> = call.random.chunks(20).collect();
+        let differ = twenties.iter().enumerate().all(|(at, one)| !twenties[..at].contains(one));
+        differ && twenties.iter().all(|&twenty| !self.random.contains(twenty))
+    }
+
+    fn judge(&self, call: &Call) -> Verdict {
+        let registry = Registry::parse(&call.registry).expect("a call past refusal 2");
+        match &call.request {
+            Request::Authorize { .. } => Verdict::Unjudged,
+            Request::Check { token } => {
+                let issued = self.issued(token).filter(|issue| issue.what == What::Access);
+                verdict(&[
+                    ("not issued as an access token", issued.is_some()),
+                    ("run out", issued.is_none_or(|issue| issue.is_live(self.now(call)))),
+                ])
+            }
+            Request::Token { header, body } => match token::Request::read(header, body, &registry) {
+                Err(_) => Verdict::NotAdmitted,
+                Ok(token::Request { client, asked: Asked::Exchange { code, redirect } }) => {
+                    let repeated = redirect.as_deref() == Some(registry.client(client).redirect);
+                    self.judge_exchange(client, &code, repeated, self.now(call))
+                }
+                Ok(token::Request { client, asked: Asked::Refresh { token, scope } }) => {
+                    self.judge_refresh(client, &token, scope.as_deref(), self.now(call))
+                }
+            },
+        }
+    }
+
+    fn judge_exchange(&self, client: usize, code: &[u8], redirect_repeated: bool, now: u64) -> Verdict {
+        let issued = self.issued(code).filter(|issue| matches!(issue.what, What::Code { .. }));
+        let bound = issued.is_some_and(|issue| issue.what == What::Code { bound: true });
+        verdict(&[
+            ("not issued as a code", issued.is_some()),
+            ("issued to another client", issued.is_none_or(|issue| issue.client == client)),
+            ("run out", issued.is_none_or(|issue| issue.is_live(now))),
+            ("exchanged before", issued.is_none_or(|issue| !issue.exchanged)),
+            ("redirect not repeated", !bound || redirect_repeated),
+            ("no room", self.standing(now, Some(code)) + 2 <= ROOM),
+        ])
+    }
+
+    fn judge_refresh(&self, client: usize, token: &[u8], scope: Option<&[u8]>, now: u64) -> Verdict {
+        let issued = self.issued(token).filter(|issue| issue.what == What::Refresh);
+        verdict(&[
+            ("not issued as a refresh token", issued.is_some()),
+            ("issued to another client", issued.is_none_or(|issue| issue.client == client)),
+            ("run out", issued.is_none_or(|issue| issue.is_live(now))),
+            ("scope not within", issued.is_none_or(|issue| is_within(scope, issue.scope))),
+            ("no room", self.standing(now, None) < ROOM),
+        ])
+    }
+
+    /// The issue of a code or token. Under the premise no two have the same text.
+    fn issued(&self, text: &[u8]) -> Option<&Issue> {
+        self.issues.iter().find(|issue| issue.text.as_bytes() == text)
+    }
+
+    /// How many issues take room: not exchanged and live, the code presented left out.
+    fn standing(&self, now: u64, own: Option<&[u8]>) -> usize {
+        let standing = |issue: &&Issue| {
+            let own = matches!(issue.what, What::Code { .. }) && own == Some(issue.text.as_bytes());
+            issue.is_live(now) && !issue.exchanged && !own
+        };
+        self.issues.iter().filter(standing).count()
+    }
+
+    /// Takes in a call that was seen, and its answer.
+    fn record(&mut self, call: &Call, after: &After) {
+        self.random.extend(call.random.chunks(20).map(<[u8]>::to_vec));
+        self.latest = self.now(call);
+        let registry = Registry::parse(&call.registry).expect("a call past refusal 2");
+        match &call.request {
+            Request::Authorize { query, farm, .. } if after.answer.issued() => {
+                let asked = authorization::Request::read(query, &registry).expect("it was granted");
+                let scope = asked.scope.expect("it was granted").0;
+                let text = behind(&after.text(), "code=", "&").expect("a code in the location");
+                self.issue(What::Code { bound: asked.bound }, text, asked.client, *farm, scope);
+            }
+            Request::Token { header, body } if after.answer.issued() => {
+                let asked = token::Request::read(header, body, &registry).expect("it was granted").asked;
+                self.record_tokens(&asked, &after.text());
+            }
+            _ => {}
+        }
+    }
+
+    fn record_tokens(&mut self, asked: &Asked, reply: &str) {
+        let access = behind(reply, "\"access_token\":\"", "\"").expect("an access token in the reply");
+        let refresh = behind(reply, "\"refresh_token\":\"", "\"");
+        match asked {
+            Asked::Exchange { code, .. } => {
+                let issued = self.issues.iter_mut().find(|issue| issue.text.as_bytes() == code).expect("judged before");
+                issued.exchanged = true;
+                let Issue { client, farm, scope, .. } = *issued;
+                self.issue(What::Access, access, client, farm, scope);
+                let refresh = refresh.expect("a refresh token in the reply");
+                self.issue(What::Refresh, refresh, client, farm, scope);
+            }
+            Asked::Refresh { token, scope } => {
+                assert_eq!(refresh, None, "a refresh issues one token");
+                let issued = self.issued(token).expect("judged before");
+                let (client, farm) = (issued.client, issued.farm);
+                let scope = scope.as_deref().map_or(issued.scope, set_of);
+                self.issue(What::Access, access, client, farm, scope);
+            }
+        }
+    }
+
+    fn issue(&mut self, what: What, text: String, client: usize, farm: u32, scope: u8) {
+        let expiry = self.latest + what.lifetime();
+        self.issues.push(Issue { what, text, client, farm, scope, expiry, exchanged: false });
+    }
+
+    /// Fails unless the answer is what the calls before it demand.
+    fn hold(&self, call: &Call, verdict: &Verdict, answer: &Answer) {
+        match (verdict, answer) {
+            (Verdict::Unjudged, Answer::Authorize(_)) => {}
+            (Verdict::NotAdmitted, Answer::Token(reply)) => assert_ne!(reply.status, 200, "{call}"),
+            (Verdict::Yields, Answer::Token(reply)) => assert_eq!(reply.status, 200, "{call}"),
+            (Verdict::Refused(why), Answer::Token(reply)) => assert_ne!(reply.status, 200, "{why:?}\n{call}"),
+            (Verdict::Yields, Answer::Check(answer)) => {
+                let Request::Check { token } = &call.request else { unreachable!() };
+                let issue = self.issued(token).expect("judged to be issued");
+                assert_eq!(answer.live, 1, "{call}");
+                let named = (answer.client as usize, answer.farm, answer.scope, answer.seconds_left);
+                let left = issue.expiry - self.now(call);
+                assert_eq!(named, (issue.client, issue.farm, issue.scope.into(), left), "{call}");
+            }
+            (Verdict::Refused(why), Answer::Check(answer)) => assert_eq!(answer.live, 0, "{why:?}\n{call}"),
+            (verdict, answer) => panic!("{verdict:?} of {answer:?}"),
+        }
+    }
+}
+
+fn verdict(conditions: &[(&'static str, bool)]) -> Verdict {
+    let failed: Vec<&'static str> =
+        conditions.iter().filter(|condition| !condition.1).map(|condition| condition.0).collect();
+    match failed.is_empty() {
+        true => Verdict::Yields,
+        false => Verdict::Refused(failed),
+    }
+}
+
+/// None is asked, or a scope value with no name beyond the granted ones.
+fn is_within(asked: Option<&[u8]>, granted: u8) -> bool {
+    let Some(asked) = asked else { return true };
+    let mut names = asked.split(|&byte| byte == b' ');
+    names.all(|name| (0..8).any(|bit| granted >> bit & 1 == 1 && NAMES[bit].as_bytes() == name))
+}
+
+fn set_of(scope: &[u8]) -> u8 {
+    (0..8)
+        .filter(|&bit| scope.split(|&byte| byte == b' ').any(|name| name == NAMES[bit].as_bytes()))
+        .map(|bit| 1 << bit)
+        .sum()
+}
+
+/// What stands behind a text, up to another or the end.
+fn behind(text: &str, before: &str, end: &str) -> Option<String> {
+    let rest = text.split_once(before)?.1;
+    Some(rest.split(end).next().unwrap_or_default().into())
+}
+
+// ---- long sequences
+
+const SEQUENCES: u64 = 16;
+const CALLS: usize = 4_000;
+/// Where time begins: at zero, about now, and a little before the highest clock.
+const FIRST_CLOCKS: [u64; 3] = [0, 1_800_000_000, (1 << 40) - 4_000_000];
+
+/// Every verdict, and every condition that fails alone at least once.
+fn expected_verdicts() -> Vec<String> {
+    let alone = [
+        "exchange: not issued as a code",
+        "exchange: issued to another client",
+        "exchange: run out",
+        "exchange: exchanged before",
+        "exchange: redirect not repeated",
+        "exchange: no room",
+        "refresh: not issued as a refresh token",
+        "refresh: issued to another client",
+        "refresh: run out",
+        "refresh: scope not within",
+        "refresh: no room",
+        "check: not issued as an access token",
+        "check: run out",
+    ];
+    let others = [
+        "exchange: yields",
+        "refresh: yields",
+        "check: yields",
+        "token: not admitted",
+        "authorize: code",
+        "authorize: no code",
+        "several conditions fail",
+        "not seen (refused with 1 to 4)",
+    ];
+    alone.iter().chain(&others).map(|&name| name.into()).collect()
+}
+
+#[test]
+fn demand_3_holds_of_long_histories() {
+    let mut tally = Tally::default();
+    let mut longest = 0;
+    let mut fullest = 0;
+    for seed in 0..SEQUENCES {
+        let judge = history(seed, &mut tally, &mut fullest);
+        longest = longest.max(judge.issues.len());
+    }
+    println!("up to {longest} issues in a history, up to {fullest} of them standing at once");
+    assert_eq!(fullest, ROOM, "no history filled the store");
+    tally.require("verdicts on calls in histories", &expected_verdicts(), 20);
+}
+
+/// One history from a fresh store, with one registry; every call is handed the store as the last one left it.
+fn history(seed: u64, tally: &mut Tally, fullest: &mut usize) -> Judge {
+    let mut rng = Rng::new(1_000_000 + seed);
+    let clients = match seed % 4 {
+        0 => sample::visit_clients(),
+        1 => random_clients(1, &mut rng),
+        2 => random_clients(6, &mut rng),
+        _ => random_clients(64, &mut rng),
+    };
+    let registry = sample::registry(&clients);
+    let mut world = World::new(clients, Start::Fresh, &mut rng);
+    let mut judge = Judge::default();
+    first_call(&mut judge, &mut world, FIRST_CLOCKS[seed as usize % 3]);
+    for _ in 0..CALLS {
+        let mut drawn = world.draw(&mut rng, &mut Tally::default());
+        if drawn.store != world.store {
+            continue;
+        }
+        if seed % 8 < 4 {
+            slow_down(&mut drawn.call, judge.latest, &mut rng);
+        }
+        let after = run(&EXPORTS, &drawn.call, &world.store);
+        keeps_demand_1(&drawn.call, &world.store, &after);
+        if (1..=4).contains(&after.answer.refusal()) {
+            tally.add("not seen (refused with 1 to 4)");
+            continue;
+        }
+        if drawn.call.registry != registry || !judge.is_within_premise(&drawn.call) {
+            continue;
+        }
+        let verdict = judge.judge(&drawn.call);
+        judge.hold(&drawn.call, &verdict, &after.answer);
+        tally.add(label(drawn.action.name(), &verdict, &after.answer));
+        judge.record(&drawn.call, &after);
+        world.carry(drawn, after, &mut rng);
+        *fullest = judge.standing(judge.latest, None).max(*fullest);
+    }
+    judge
+}
+
+/// A check of nothing, which sets the time.
+fn first_call(judge: &mut Judge, world: &mut World, clock: u64) {
+    let registry = sample::registry(&world.clients);
+    let call = Call { request: Request::Check { token: Vec::new() }, registry, clock, random: Vec::new(), output: 0 };
+    let after = run(&EXPORTS, &call, &world.store);
+    judge.hold(&call, &judge.judge(&call), &after.answer);
+    judge.record(&call, &after);
+    world.store = after.store;
+}
+
+/// Lets time pass slowly, but for a leap now and then, so that the store fills up.
+fn slow_down(call: &mut Call, latest: u64, rng: &mut Rng) {
+    let leap = call.clock > latest && call.clock <= 1 << 40 && rng.below(1_000) > 0;
+    if leap {
+        call.clock = latest + u64::from(rng.chance(30));
+    }
+}
+
+fn label(action: &str, verdict: &Verdict, answer: &Answer) -> String {
+    match verdict {
+        Verdict::Unjudged if answer.issued() => "authorize: code".into(),
+        Verdict::Unjudged => "authorize: no code".into(),
+        Verdict::NotAdmitted => "token: not admitted".into(),
+        Verdict::Yields => format!("{action}: yields"),
+        Verdict::Refused(why) => match why[..] {
+            [alone] => format!("{action}: {alone}"),
+            _ => "several conditions fail".into(),
+        },
+    }
+}

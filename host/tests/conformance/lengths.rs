@@ -1,0 +1,254 @@
+//! Buffers, requests and fields of every length around their limits, each with everything else as it should be.
+
+use std::sync::Arc;
+
+use poplarchime_host::sample::{self, Client, Slot};
+
+use crate::support::compare::run_both;
+use crate::support::draft::{Action, Draft};
+
+const NOW: u64 = 1000;
+const RANDOM: [u8; 40] = [0x5a; 40];
+
+/// Slot 0 holds a code, slot 1 an access token, slot 2 a refresh token, all of client 0.
+fn store() -> Vec<u8> {
+    let mut store = sample::empty_store();
+    for (number, kind) in [sample::CODE, sample::ACCESS, sample::REFRESH].into_iter().enumerate() {
+        let handle = [0xab + number as u8; 20];
+        sample::set_slot(&mut store, number, Slot { kind, handle, client: 0, farm: 1, scope: 1, expiry: 2000 });
+    }
+    store
+}
+
+fn draft_of(action: Action, clients: &Arc<[Client]>) -> Draft {
+    match action {
+        Action::Authorize => Draft::authorize(clients, &store(), NOW, 0, &RANDOM[..20]),
+        Action::Exchange => {
+            // Equal halves would be a clash.
+            let random: Vec<u8> = (0..40).collect();
+            Draft::token(action, clients, &store(), NOW, 0, random)
+        }
+        Action::Refresh => Draft::token(action, clients, &store(), NOW, 2, RANDOM),
+        Action::Check => Draft::check(clients, &store(), NOW, 1),
+    }
+}
+
+fn draft(action: Action) -> Draft {
+    draft_of(action, &sample::visit_clients().into())
+}
+
+fn granted(action: Action) -> &'static str {
+    match action {
+        Action::Authorize => "code",
+        Action::Exchange | Action::Refresh => "200",
+        Action::Check => "live",
+    }
+}
+
+#[track_caller]
+fn expect(draft: &Draft, outcome: &str) {
+    assert_eq!(run_both(&draft.call(), &draft.store).answer.outcome(), outcome, "{}", draft.call());
+}
+
+const ISSUING: [Action; 3] = [Action::Authorize, Action::Exchange, Action::Refresh];
+
+#[test]
+fn random_bytes() {
+    for action in ISSUING {
+        let right = if action == Action::Authorize { 20 } else { 40 };
+        for length in 0..=100 {
+            let mut draft = draft(action);
+            draft.random = (0..length).collect();
+            expect(&draft, if length == right { granted(action) } else { "refusal 1" });
+        }
+    }
+}
+
+#[test]
+fn output() {
+    for action in ISSUING {
+        for length in (0..40).chain(1000..1050) {
+            let mut draft = draft(action);
+            draft.output = length;
+            expect(&draft, if length >= 1024 { granted(action) } else { "refusal 1" });
+        }
+    }
+}
+
+#[test]
+fn queries_and_bodies() {
+    for action in ISSUING {
+        for length in 4080..4120 {
+            let mut draft = draft(action);
+            draft.padded_to = length;
+            let over = if action == Action::Authorize { "refusal 5" } else { "400 invalid_request" };
+            expect(&draft, if length <= 4096 { granted(action) } else { over });
+        }
+    }
+}
+
+#[test]
+fn headers() {
+    // No header of 512 bytes or around admits anyone; the longest that does has 138.
+    for action in [Action::Exchange, Action::Refresh] {
+        for length in (0..20).chain(500..530) {
+            let mut draft = draft(action);
+            draft.authenticate_by_header(sample::basic_header(b"s6BhdRkqt3", &[b'x'; 400]));
+            draft.header.truncate(length);
+            let none = length == 0;
+            expect(&draft, if none { "401 invalid_client" } else { "401 invalid_client, challenge" });
+        }
+        let longest = Client {
+            id: vec![b'i'; 32],
+            secret: Some(vec![b's'; 64]),
+            ..Client::public("", "https://long.example/", 1)
+        };
+        let draft = draft_of(action, &vec![longest].into());
+        assert_eq!(draft.header.len(), 138);
+        expect(&draft, "200");
+    }
+}
+
+#[test]
+fn states() {
+    for length in 1..=260 {
+        for byte in [b's', b'&', b' '] {
+            let mut draft = draft(Action::Authorize);
+            draft.params.push("state", vec![byte; length]);
+            expect(&draft, if length <= 200 { "code" } else { "invalid_request" });
+        }
+    }
+}
+
+#[test]
+fn handles() {
+    for action in [Action::Exchange, Action::Refresh, Action::Check] {
+        for length in 0..=60 {
+            let mut draft = draft(action);
+            let mut text = draft.presented_slot().handle_text();
+            text.truncate(length);
+            text.push_str(&"0".repeat(length - text.len()));
+            let (outcome, missing) = match action {
+                Action::Exchange => {
+                    draft.params.set("code", &text);
+                    ("400 invalid_grant", "400 invalid_request")
+                }
+                Action::Refresh => {
+                    draft.params.set("refresh_token", &text);
+                    ("400 invalid_grant", "400 invalid_request")
+                }
+                _ => {
+                    draft.token = text.into();
+                    ("not live", "not live")
+                }
+            };
+            expect(
+                &draft,
+                match length {
+                    40 => granted(action),
+                    0 => missing,
+                    _ => outcome,
+                },
+            );
+        }
+    }
+}
+
+#[test]
+fn stores() {
+    for action in Action::ALL {
+        for length in (0..50).chain(sample::STORE_SIZE - 50..sample::STORE_SIZE + 50) {
+            let mut draft = draft(action);
+            draft.store.resize(length, 0);
+            expect(&draft, if length == sample::STORE_SIZE { granted(action) } else { "refusal 3" });
+        }
+    }
+}
+
+#[test]
+fn registries_cut_anywhere() {
+    for action in Action::ALL {
+        for length in 0..=600 {
+            let mut draft = draft(action);
+            draft.registry.resize(length, 0);
+            // One record, or both.
+            let fit = length == 301 || length == 537;
+            expect(&draft, if fit { granted(action) } else { "refusal 2" });
+        }
+    }
+}
+
+#[test]
+fn fields_of_a_record() {
+    // Kind, where the length stands, the width of the field behind it.
+    for (kind, at, width) in [(1, 1, 32), (1, 34, 200), (2, 1, 32), (2, 34, 200), (2, 236, 64)] {
+        for length in 0..=255_u8 {
+            let client = match kind {
+                1 => Client::public("i", "r", 255),
+                _ => Client::confidential("i", "s", "r", 255),
+            };
+            let mut draft = draft_of(Action::Check, &vec![client].into());
+            draft.registry[at] = length;
+            let used = usize::from(length).min(width);
+            draft.registry[at + 1..][..width].fill(0);
+            draft.registry[at + 1..][..used].fill(b'x');
+            let fit = (1..=width).contains(&usize::from(length));
+            expect(&draft, if fit { "live" } else { "refusal 2" });
+        }
+    }
+}
+
+#[test]
+fn bytes_of_a_record() {
+    // Where a text of one byte stands, and which bytes it may be.
+    let id = |byte: u8| (0x20..=0x7e).contains(&byte) && byte != b':';
+    let redirect = |byte: u8| (0x21..=0x7e).contains(&byte) && byte != b'#';
+    let secret = |byte: u8| (0x20..=0x7e).contains(&byte);
+    let places: [(usize, &dyn Fn(u8) -> bool); 3] = [(2, &id), (35, &redirect), (237, &secret)];
+    for (at, allowed) in places {
+        for byte in 0..=255 {
+            let client = Client::confidential("i", "s", "r", 255);
+            let mut draft = draft_of(Action::Check, &vec![client].into());
+            draft.registry[at] = byte;
+            expect(&draft, if allowed(byte) { "live" } else { "refusal 2" });
+        }
+    }
+}
+
+#[test]
+fn unused_bytes_of_a_record() {
+    let client = Client::confidential("i", "s", "r", 255);
+    let used = [0, 1, 2, 34, 35, 235, 236, 237];
+    for at in (0..301).filter(|at| !used.contains(at)) {
+        let mut draft = draft_of(Action::Check, &vec![client.clone()].into());
+        draft.registry[at] = b'x';
+        expect(&draft, "refusal 2");
+    }
+}
+
+#[test]
+fn bytes_of_a_free_slot() {
+    for slot in [3, 100, 511] {
+        for offset in 1..35 {
+            let mut draft = draft(Action::Check);
+            draft.store[sample::slot_range(slot).start + offset] = 1;
+            expect(&draft, "refusal 3");
+        }
+    }
+}
+
+#[test]
+fn kinds_and_clients_of_a_slot() {
+    for number in 0..=255 {
+        let held = Slot { kind: number, handle: [9; 20], client: 1, farm: 0, scope: 1, expiry: 0 };
+        for (slot, fit) in [
+            (held, (1..=4).contains(&number)),
+            (Slot { kind: sample::REFRESH, client: number, ..held }, number < 2),
+            (Slot { kind: sample::REFRESH, scope: number, ..held }, number > 0),
+        ] {
+            let mut draft = draft(Action::Check);
+            sample::set_slot(&mut draft.store, 511, slot);
+            expect(&draft, if fit { "live" } else { "refusal 3" });
+        }
+    }
+}

@@ -1,0 +1,13 @@
+//! The exported endpoints, held to the plain program byte for byte and to the papers' own words.
+
+mod support;
+
+mod header;
+mod history;
+mod lengths;
+mod random_calls;
+mod readings;
+mod refusals;
+mod registries_and_stores;
+mod rfc6749;
+mod visit;

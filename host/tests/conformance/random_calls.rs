@@ -1,0 +1,122 @@
+//! Random and damaged calls, in sequences that carry the store along: both programs agree in everything.
+//!
+//! Every run draws the same calls. A failure names its sequence and call.
+
+use std::panic::{catch_unwind, resume_unwind, AssertUnwindSafe};
+use std::sync::atomic::{AtomicUsize, Ordering};
+
+use poplarchime_host::sample::{self, Client};
+
+use crate::support::compare::run_both;
+use crate::support::draft::Action;
+use crate::support::rng::Rng;
+use crate::support::tally::Tally;
+use crate::support::world::{random_clients, Start, World};
+
+const SEQUENCES: usize = 4_400;
+const CALLS: usize = 110;
+/// Each outcome and each reason must come up at least so often in all.
+const LEAST: usize = 25;
+
+#[derive(Default)]
+struct Counts {
+    outcomes: Tally,
+    reasons: Tally,
+    /// Calls that were handed the store as the last one left it.
+    carried: usize,
+    /// Calls without fault or damage, and how many of them were granted or live.
+    sound: usize,
+    granted: usize,
+}
+
+#[test]
+fn both_programs_agree_on_random_calls() {
+    let next = AtomicUsize::new(0);
+    let work = || {
+        let mut counts = Counts::default();
+        loop {
+            let number = next.fetch_add(1, Ordering::Relaxed);
+            if number >= SEQUENCES {
+                return counts;
+            }
+            let run = catch_unwind(AssertUnwindSafe(|| sequence(number, &mut counts)));
+            if let Err(panic) = run {
+                // The other worker need not go on.
+                next.store(SEQUENCES, Ordering::Relaxed);
+                resume_unwind(panic);
+            }
+        }
+    };
+    let counts = std::thread::scope(|scope| {
+        let other = scope.spawn(work);
+        let mut counts = work();
+        counts.merge(other.join().unwrap_or_else(|panic| resume_unwind(panic)));
+        counts
+    });
+    counts.print();
+    let outcomes: Vec<String> = Action::ALL.iter().flat_map(|action| action.outcomes()).collect();
+    counts.outcomes.require("outcomes of random calls", &outcomes, LEAST);
+    counts.reasons.require("what was done to random calls", &World::reasons(), LEAST);
+    assert_eq!(counts.outcomes.total(), SEQUENCES * CALLS);
+    assert!(counts.carried >= 300_000, "too few calls carried the store along");
+    assert!(counts.granted * 2 > counts.sound, "too few sound requests were granted");
+}
+
+impl Counts {
+    fn merge(&mut self, other: Counts) {
+        self.outcomes.merge(other.outcomes);
+        self.reasons.merge(other.reasons);
+        self.carried += other.carried;
+        self.sound += other.sound;
+        self.granted += other.granted;
+    }
+
+    fn print(&self) {
+        println!("{} calls were handed the store as the last one left it", self.carried);
+        println!("{} had nothing wrong put in, {} of them were granted or live", self.sound, self.granted);
+    }
+}
+
+fn sequence(number: usize, counts: &mut Counts) {
+    let mut rng = Rng::new(number as u64);
+    let start = rng.pick(&Start::ALL);
+    let clients = some_clients(&mut rng);
+    let mut world = World::new(clients, start, &mut rng);
+    for step in 0..CALLS {
+        if start == Start::Odd && rng.chance(5) {
+            world.disturb(&mut rng);
+        }
+        let run = catch_unwind(AssertUnwindSafe(|| one_call(&mut world, &mut rng, counts)));
+        if let Err(panic) = run {
+            eprintln!("in sequence {number}, call {step}, which started {start:?}");
+            resume_unwind(panic);
+        }
+    }
+}
+
+fn some_clients(rng: &mut Rng) -> Vec<Client> {
+    match rng.below(10) {
+        0..=2 => sample::visit_clients(),
+        3..=4 => random_clients(1, rng),
+        5 => random_clients(64, rng),
+        _ => {
+            let count = rng.between(2, 9);
+            random_clients(count, rng)
+        }
+    }
+}
+
+fn one_call(world: &mut World, rng: &mut Rng, counts: &mut Counts) {
+    let drawn = world.draw(rng, &mut counts.reasons);
+    let after = run_both(&drawn.call, &drawn.store);
+    let outcome = after.answer.outcome();
+    counts.outcomes.add(format!("{}: {outcome}", drawn.action.name()));
+    if drawn.sound {
+        counts.sound += 1;
+        counts.granted += usize::from(["code", "200", "live"].contains(&&outcome[..]));
+    }
+    if drawn.store == world.store {
+        counts.carried += 1;
+        world.carry(drawn, after, rng);
+    }
+}

@@ -1,0 +1,283 @@
+//! The smallest and the largest registry, and stores that are fit although no call would leave them so.
+
+use poplarchime_host::answers::CheckAnswer;
+use poplarchime_host::sample::{self, Client, Slot};
+
+use crate::support::call::{Call, Request};
+use crate::support::compare::run_both;
+use crate::support::host::{bad_request, counting, redirected, Authorized, Host};
+
+const LIMIT: u64 = 1 << 40;
+
+fn exchange_body(handle: &[u8; 20]) -> String {
+    format!("grant_type=authorization_code&code={}", sample::hex(handle))
+}
+
+fn refresh_body(handle: &[u8; 20]) -> String {
+    format!("grant_type=refresh_token&refresh_token={}", sample::hex(handle))
+}
+
+fn basic(client: &Client) -> Vec<u8> {
+    client.secret.as_ref().map_or(Vec::new(), |secret| sample::basic_header(&client.id, secret))
+}
+
+/// Authorize, exchange, check and refresh for one client of a registry.
+fn whole_visit(clients: &[Client], number: usize) {
+    let client = &clients[number];
+    let mut host = Host::new(clients);
+    let id = String::from_utf8(client.id.clone()).unwrap();
+    let by_id = if client.secret.is_none() { format!("&client_id={id}") } else { String::new() };
+    let Authorized::Redirected(location) = host.authorize(format!("response_type=code&client_id={id}"), 1, 1000, 0x00)
+    else {
+        panic!("no redirect for client {number}");
+    };
+    assert!(location.ends_with(&format!("code={}", sample::hex(&counting(0)))), "{location}");
+    assert_eq!(host.token(basic(client), exchange_body(&counting(0)) + &by_id, 1000, 0x20).status, 200);
+    let answer = host.check(sample::hex(&counting(0x20)), 1000);
+    let expected = CheckAnswer {
+        live: 1,
+        client: number as u32,
+        farm: 7,
+        scope: client.scope.into(),
+        seconds_left: 3600,
+        ..answer
+    };
+    assert_eq!(answer, expected);
+    assert_eq!(host.token(basic(client), refresh_body(&counting(0x34)) + &by_id, 1000, 0x60).status, 200);
+}
+
+#[test]
+fn one_client() {
+    whole_visit(&sample::visit_clients()[..1], 0);
+    whole_visit(&sample::visit_clients()[1..], 0);
+}
+
+#[test]
+fn sixty_four_clients() {
+    let clients = sample::crowd(64);
+    for number in 0..64 {
+        whole_visit(&clients, number);
+    }
+}
+
+#[test]
+fn sixty_five_clients_are_too_many() {
+    let mut host = Host::new(&sample::crowd(65));
+    assert_eq!(host.check("", 1000).refusal, 2);
+}
+
+#[test]
+fn a_registry_of_one_client_has_no_client_1() {
+    let mut host = Host::visit();
+    host.set_slot(511, Slot { kind: sample::ACCESS, client: 1, scope: 1, ..Slot::default() });
+    assert_eq!(host.check("", 1000).refusal, 0);
+    host.registry.truncate(301);
+    assert_eq!(host.check("", 1000).refusal, 3);
+}
+
+#[test]
+fn the_longest_location_fits() {
+    let redirect = format!("https://{}", "r".repeat(192));
+    let client = Client { id: vec![b'~'; 32], ..Client::public("", &redirect, 1) };
+    let mut host = Host::new(&[client]);
+    let query = format!("response_type=code&client_id={}&state={}", "~".repeat(32), "%7E".repeat(200));
+    let location = format!("{redirect}?code={}&state={}", sample::hex(&counting(0)), "%7E".repeat(200));
+    assert_eq!(location.len(), 853);
+    assert_eq!(host.authorize(query, 1, 1000, 0x00), redirected(&location));
+}
+
+#[test]
+fn the_longest_reply_fits() {
+    let mut host = Host::visit();
+    let code = Slot { kind: sample::CODE, handle: counting(0), client: 0, farm: 1, scope: 255, expiry: 2000 };
+    host.set_slot(0, code);
+    let reply = host.token(basic(&sample::visit_clients()[0]), exchange_body(&counting(0)), 1000, 0x20);
+    assert!(reply.body.ends_with("\"scope\":\"power peak tariff bill milking drying pump solar\"}"), "{}", reply.body);
+}
+
+#[test]
+fn the_lowest_slot_of_a_handle_counts() {
+    let mut host = Host::visit();
+    let access = Slot { kind: sample::ACCESS, handle: [7; 20], client: 0, farm: 1, scope: 1, expiry: 2000 };
+    host.set_slot(5, Slot { farm: 5, ..access });
+    host.set_slot(3, Slot { farm: 3, scope: 255, client: 1, expiry: 1500, ..access });
+    host.set_slot(1, Slot { farm: 1, kind: sample::REFRESH, ..access });
+    host.set_slot(0, Slot { farm: 0, kind: sample::CODE, ..access });
+    let expected = CheckAnswer { refusal: 0, live: 1, client: 1, farm: 3, scope: 255, seconds_left: 500 };
+    assert_eq!(host.check(sample::hex(&[7; 20]), 1000), expected);
+}
+
+#[test]
+fn a_slot_that_has_run_out_hides_a_live_one() {
+    for kind in [sample::CODE, sample::BOUND_CODE, sample::ACCESS, sample::REFRESH] {
+        let client = &sample::visit_clients()[0];
+        let redirect = "&redirect_uri=https://client.example.com/cb";
+        let live = Slot { kind, handle: [7; 20], client: 0, farm: 1, scope: 1, expiry: 2000 };
+        let mut host = Host::visit();
+        host.set_slot(2, live);
+        host.set_slot(1, Slot { expiry: 1000, ..live });
+        match kind {
+            sample::ACCESS => assert_eq!(host.check(sample::hex(&[7; 20]), 1000), CheckAnswer::default()),
+            sample::REFRESH => {
+                let reply = host.token(basic(client), refresh_body(&[7; 20]), 1000, 0x20);
+                assert_eq!(reply, bad_request("invalid_grant"));
+            }
+            _ => {
+                let reply = host.token(basic(client), exchange_body(&[7; 20]) + redirect, 1000, 0x20);
+                assert_eq!(reply, bad_request("invalid_grant"));
+            }
+        }
+        // The same store a second earlier finds the lower slot live.
+        let mut host = Host::visit();
+        host.set_slot(2, live);
+        host.set_slot(1, Slot { expiry: 1000, farm: 99, ..live });
+        match kind {
+            sample::ACCESS => assert_eq!(host.check(sample::hex(&[7; 20]), 999).farm, 99),
+            sample::REFRESH => assert_eq!(host.token(basic(client), refresh_body(&[7; 20]), 999, 0x20).status, 200),
+            _ => {
+                let reply = host.token(basic(client), exchange_body(&[7; 20]) + redirect, 999, 0x20);
+                assert_eq!(reply.status, 200);
+                assert_eq!(host.slot(0).farm, 99);
+            }
+        }
+    }
+}
+
+#[test]
+fn a_strangers_slot_hides_ones_own() {
+    let mut host = Host::visit();
+    let own = Slot { kind: sample::CODE, handle: [7; 20], client: 0, farm: 1, scope: 1, expiry: 2000 };
+    host.set_slot(2, own);
+    host.set_slot(1, Slot { client: 1, ..own });
+    let header = basic(&sample::visit_clients()[0]);
+    assert_eq!(host.token(&header, exchange_body(&[7; 20]), 1000, 0x20), bad_request("invalid_grant"));
+    let body = exchange_body(&[7; 20]) + "&client_id=barnapp";
+    assert_eq!(host.token("", body, 1000, 0x20).status, 200);
+    assert_eq!(host.token(&header, exchange_body(&[7; 20]), 1000, 0x60).status, 200, "no longer hidden");
+}
+
+#[test]
+fn codes_of_both_kinds_are_looked_up_together() {
+    let mut host = Host::visit();
+    let code = Slot { kind: sample::CODE, handle: [7; 20], client: 0, farm: 1, scope: 1, expiry: 2000 };
+    host.set_slot(4, code);
+    host.set_slot(2, Slot { kind: sample::BOUND_CODE, ..code });
+    let header = basic(&sample::visit_clients()[0]);
+    assert_eq!(host.token(&header, exchange_body(&[7; 20]), 1000, 0x20), bad_request("invalid_grant"));
+    let bound = exchange_body(&[7; 20]) + "&redirect_uri=https://client.example.com/cb";
+    assert_eq!(host.token(&header, bound, 1000, 0x20).status, 200);
+    assert_eq!(host.token(&header, exchange_body(&[7; 20]), 1000, 0x60).status, 200);
+}
+
+#[test]
+fn the_slots_scope_counts_not_the_clients() {
+    let mut host = Host::visit();
+    let refresh = Slot { kind: sample::REFRESH, handle: [7; 20], client: 1, farm: 1, scope: 0xf0, expiry: 2000 };
+    host.set_slot(0, refresh);
+    let body = refresh_body(&[7; 20]) + "&client_id=barnapp";
+    assert_eq!(host.token("", format!("{body}&scope=power"), 1000, 0x20), bad_request("invalid_scope"));
+    assert_eq!(host.token("", format!("{body}&scope=solar+pump"), 1000, 0x20).status, 200);
+    assert_eq!(host.check(sample::hex(&counting(0x20)), 1000).scope, 0xc0);
+}
+
+#[test]
+fn any_expiry_is_fit() {
+    for expiry in [0, 1, LIMIT, LIMIT + 1, u64::MAX] {
+        let mut host = Host::visit();
+        host.set_slot(9, Slot { kind: sample::ACCESS, handle: [7; 20], client: 0, farm: 1, scope: 1, expiry });
+        let answer = host.check(sample::hex(&[7; 20]), 1000);
+        assert_eq!((answer.refusal, answer.seconds_left), (0, expiry.saturating_sub(1000)));
+    }
+}
+
+#[test]
+fn the_last_second_of_time() {
+    let mut host = Host::visit();
+    sample::set_latest(&mut host.store, LIMIT);
+    let location = format!("https://barn.example/r?x=1&code={}", sample::hex(&counting(0)));
+    let query = "response_type=code&client_id=barnapp";
+    assert_eq!(host.authorize(query, 1, LIMIT, 0x00), redirected(&location));
+    assert_eq!(host.slot(0).expiry, LIMIT + 600);
+    let body = exchange_body(&counting(0)) + "&client_id=barnapp";
+    assert_eq!(host.token("", body, 0, 0x20).status, 200);
+    assert_eq!(host.check(sample::hex(&counting(0x20)), 0).seconds_left, 3600);
+    assert_eq!(host.check(sample::hex(&counting(0x20)), LIMIT + 1).refusal, 4);
+    sample::set_latest(&mut host.store, LIMIT + 1);
+    assert_eq!(host.check(sample::hex(&counting(0x20)), LIMIT + 1).refusal, 3);
+}
+
+#[test]
+fn an_exchange_takes_the_lowest_slots_its_own_among_them() {
+    // The code's slot, the lowest other vacant ones, and where access and refresh token land.
+    for (code, vacant, access, refresh) in
+        [(5, [7, 8], 5, 7), (7, [5, 8], 5, 7), (8, [5, 7], 5, 7), (0, [1, 2], 0, 1), (511, [509, 510], 509, 510)]
+    {
+        let mut host = Host::visit();
+        let live = Slot { kind: sample::REFRESH, handle: [1; 20], client: 1, farm: 1, scope: 1, expiry: 5000 };
+        for number in 0..sample::SLOTS {
+            host.set_slot(number, live);
+        }
+        host.set_slot(vacant[0], Slot { expiry: 1000, ..live });
+        host.set_slot(vacant[1], Slot::default());
+        host.set_slot(code, Slot { kind: sample::CODE, handle: [7; 20], client: 0, farm: 9, scope: 3, expiry: 1001 });
+        let reply = host.token(basic(&sample::visit_clients()[0]), exchange_body(&[7; 20]), 1000, 0x20);
+        assert_eq!(reply.status, 200);
+        assert_eq!((host.slot(access).handle, host.slot(access).kind), (counting(0x20), sample::ACCESS));
+        assert_eq!((host.slot(refresh).handle, host.slot(refresh).kind), (counting(0x34), sample::REFRESH));
+        assert_eq!((host.slot(access).farm, host.slot(refresh).scope), (9, 3));
+    }
+}
+
+#[test]
+fn a_full_store_has_room_for_an_exchange_only_with_one_more_slot() {
+    for (vacant, status) in [(0, 503), (1, 200)] {
+        let mut host = Host::visit();
+        let live = Slot { kind: sample::ACCESS, handle: [1; 20], client: 1, farm: 1, scope: 1, expiry: 1001 };
+        for number in vacant..sample::SLOTS {
+            host.set_slot(number, live);
+        }
+        host.set_slot(200, Slot { kind: sample::CODE, handle: [7; 20], client: 0, ..live });
+        host.set_slot(201, Slot { kind: sample::REFRESH, handle: [8; 20], client: 0, ..live });
+        let header = basic(&sample::visit_clients()[0]);
+        let mut refreshing = Host { registry: host.registry.clone(), store: host.store.clone() };
+        assert_eq!(host.token(&header, exchange_body(&[7; 20]), 1000, 0x20).status, status);
+        assert_eq!(refreshing.token(&header, refresh_body(&[8; 20]), 1000, 0x20).status, status);
+        assert_eq!(refreshing.token(&header, refresh_body(&[8; 20]), 1000, 0x60).status, 503, "full now");
+    }
+}
+
+#[test]
+fn on_a_full_store_clashes_are_not_looked_for() {
+    let mut host = Host::visit();
+    let live = Slot { kind: sample::CODE, handle: counting(0), client: 0, farm: 1, scope: 1, expiry: 1001 };
+    for number in 0..sample::SLOTS {
+        host.set_slot(number, live);
+    }
+    let location = "https://barn.example/r?x=1&error=temporarily_unavailable";
+    assert_eq!(host.authorize("response_type=code&client_id=barnapp", 1, 1000, 0x00), redirected(location));
+    let header = basic(&sample::visit_clients()[0]);
+    assert_eq!(host.token(&header, exchange_body(&counting(0)), 1000, 0x00).status, 503);
+    // One second on, every slot has run out, but a handle in use is one all the same.
+    let location = "https://barn.example/r?x=1&error=server_error";
+    assert_eq!(host.authorize("response_type=code&client_id=barnapp", 1, 1001, 0x00), redirected(location));
+}
+
+#[test]
+fn empty_slices_are_fine() {
+    let registry = sample::registry(&sample::visit_clients());
+    let store = sample::empty_store();
+    let call = |request, random: usize| Call {
+        request,
+        registry: registry.clone(),
+        clock: 0,
+        random: vec![1; random],
+        output: 1024,
+    };
+    let query = call(Request::Authorize { query: Vec::new(), decision: 1, farm: 0 }, 20);
+    assert_eq!(run_both(&query, &store).answer.outcome(), "refusal 6");
+    let body = call(Request::Token { header: Vec::new(), body: Vec::new() }, 40);
+    assert_eq!(run_both(&body, &store).answer.outcome(), "400 invalid_request");
+    let token = call(Request::Check { token: Vec::new() }, 0);
+    assert_eq!(run_both(&token, &store).answer.outcome(), "not live");
+    assert_eq!(run_both(&token, &[]).answer.outcome(), "refusal 3");
+}

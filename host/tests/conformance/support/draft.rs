@@ -1,0 +1,318 @@
+//! A request in the making: its parts can be spoiled one by one before it becomes a call.
+
+use std::sync::Arc;
+
+use poplarchime_host::sample::{self, Client, Slot};
+
+use super::call::{Call, Request};
+use super::rng::Rng;
+
+/// What a request is about. An exchange and a refresh go to the same endpoint.
+#[derive(Clone, Copy, Debug, PartialEq, Eq)]
+pub enum Action {
+    Authorize,
+    Exchange,
+    Refresh,
+    Check,
+}
+
+impl Action {
+    pub const ALL: [Action; 4] = [Action::Authorize, Action::Exchange, Action::Refresh, Action::Check];
+
+    pub fn name(self) -> &'static str {
+        match self {
+            Action::Authorize => "authorize",
+            Action::Exchange => "exchange",
+            Action::Refresh => "refresh",
+            Action::Check => "check",
+        }
+    }
+
+    /// Every outcome that the papers have for a request of this kind.
+    pub fn outcomes(self) -> Vec<String> {
+        let endings: &[&str] = match self {
+            Action::Authorize => &[
+                "refusal 1",
+                "refusal 2",
+                "refusal 3",
+                "refusal 4",
+                "refusal 5",
+                "refusal 6",
+                "refusal 7",
+                "invalid_request",
+                "unsupported_response_type",
+                "invalid_scope",
+                "access_denied",
+                "temporarily_unavailable",
+                "server_error",
+                "code",
+            ],
+            Action::Exchange | Action::Refresh => &[
+                "refusal 1",
+                "refusal 2",
+                "refusal 3",
+                "refusal 4",
+                "400 invalid_request",
+                "401 invalid_client",
+                "401 invalid_client, challenge",
+                "400 unsupported_grant_type",
+                "400 invalid_grant",
+                "503",
+                "500",
+                "200",
+            ],
+            Action::Check => &["refusal 2", "refusal 3", "refusal 4", "not live", "live"],
+        };
+        let mut outcomes: Vec<String> = endings.iter().map(|ending| format!("{}: {ending}", self.name())).collect();
+        if self == Action::Refresh {
+            outcomes.push("refresh: 400 invalid_scope".into());
+        }
+        outcomes
+    }
+}
+
+/// Names and values of a form, not yet encoded.
+#[derive(Clone, Debug, Default)]
+pub struct Params(Vec<(Vec<u8>, Vec<u8>)>);
+
+impl Params {
+    pub fn get(&self, name: &str) -> Option<&[u8]> {
+        self.0.iter().find(|param| param.0 == name.as_bytes()).map(|param| &param.1[..])
+    }
+
+    pub fn push(&mut self, name: &str, value: impl AsRef<[u8]>) {
+        self.0.push((name.into(), value.as_ref().to_vec()));
+    }
+
+    /// Makes this the name's only value.
+    pub fn set(&mut self, name: &str, value: impl AsRef<[u8]>) {
+        self.remove(name);
+        self.push(name, value);
+    }
+
+    pub fn remove(&mut self, name: &str) {
+        self.0.retain(|param| param.0 != name.as_bytes());
+    }
+}
+
+#[derive(Clone, Debug)]
+pub struct Draft {
+    pub action: Action,
+    /// What the registry is made of.
+    pub clients: Arc<[Client]>,
+    /// Who asks.
+    pub client: usize,
+    /// The slot whose handle is presented.
+    pub presented: usize,
+    pub params: Params,
+    /// A piece that is put behind the form as it stands.
+    pub raw_piece: Vec<u8>,
+    /// The form is filled up to this length.
+    pub padded_to: usize,
+    pub decision: u64,
+    pub farm: u32,
+    pub header: Vec<u8>,
+    pub token: Vec<u8>,
+    pub registry: Vec<u8>,
+    pub store: Vec<u8>,
+    pub clock: u64,
+    pub random: Vec<u8>,
+    pub output: usize,
+}
+
+impl Draft {
+    fn new(action: Action, clients: &Arc<[Client]>, store: &[u8], clock: u64) -> Draft {
+        Draft {
+            action,
+            clients: clients.clone(),
+            client: 0,
+            presented: 0,
+            params: Params::default(),
+            raw_piece: Vec::new(),
+            padded_to: 0,
+            decision: 1,
+            farm: 7,
+            header: Vec::new(),
+            token: Vec::new(),
+            registry: sample::registry(clients),
+            store: store.to_vec(),
+            clock,
+            random: Vec::new(),
+            output: 1024,
+        }
+    }
+
+    /// A request that asks for nothing special and is granted.
+    pub fn authorize(
+        clients: &Arc<[Client]>,
+        store: &[u8],
+        clock: u64,
+        client: usize,
+        random: impl AsRef<[u8]>,
+    ) -> Draft {
+        let mut draft = Draft::new(Action::Authorize, clients, store, clock);
+        draft.client = client;
+        draft.random = random.as_ref().to_vec();
+        draft.params.push("response_type", "code");
+        draft.params.push("client_id", &clients[client].id);
+        draft
+    }
+
+    /// The exchange of the code in a slot, or the refresh with the refresh token in it, by the client it belongs to.
+    pub fn token(
+        action: Action,
+        clients: &Arc<[Client]>,
+        store: &[u8],
+        clock: u64,
+        slot: usize,
+        random: impl AsRef<[u8]>,
+    ) -> Draft {
+        let mut draft = Draft::new(action, clients, store, clock);
+        let held = sample::slot(store, slot);
+        draft.presented = slot;
+        draft.random = random.as_ref().to_vec();
+        match action {
+            Action::Exchange => {
+                draft.params.push("grant_type", "authorization_code");
+                draft.params.push("code", held.handle_text());
+                if held.kind == sample::BOUND_CODE {
+                    draft.params.push("redirect_uri", &clients[usize::from(held.client)].redirect);
+                }
+            }
+            _ => {
+                draft.params.push("grant_type", "refresh_token");
+                draft.params.push("refresh_token", held.handle_text());
+            }
+        }
+        draft.authenticate(held.client.into());
+        draft
+    }
+
+    /// The check of the access token in a slot.
+    pub fn check(clients: &Arc<[Client]>, store: &[u8], clock: u64, slot: usize) -> Draft {
+        let mut draft = Draft::new(Action::Check, clients, store, clock);
+        draft.presented = slot;
+        draft.token = sample::slot(store, slot).handle_text().into();
+        draft
+    }
+
+    /// The slot that is presented, as the draft's store has it.
+    pub fn presented_slot(&self) -> Slot {
+        sample::slot(&self.store, self.presented)
+    }
+
+    pub fn edit_slot(&mut self, number: usize, edit: impl FnOnce(&mut Slot)) {
+        let mut slot = sample::slot(&self.store, number);
+        edit(&mut slot);
+        sample::set_slot(&mut self.store, number, slot);
+    }
+
+    /// Credentials of this client as they should be: a header for a confidential one, its id alone for a public one.
+    pub fn authenticate(&mut self, client: usize) {
+        self.client = client;
+        let asking = self.clients[client].clone();
+        match &asking.secret {
+            Some(secret) => self.authenticate_by_header(sample::basic_header(&asking.id, secret)),
+            None => self.authenticate_in_body(&asking.id, None),
+        }
+    }
+
+    pub fn authenticate_by_header(&mut self, header: impl Into<Vec<u8>>) {
+        self.header = header.into();
+        self.params.remove("client_id");
+        self.params.remove("client_secret");
+    }
+
+    pub fn authenticate_in_body(&mut self, id: &[u8], secret: Option<&[u8]>) {
+        self.header.clear();
+        self.params.set("client_id", id);
+        match secret {
+            Some(secret) => self.params.set("client_secret", secret),
+            None => self.params.remove("client_secret"),
+        }
+    }
+
+    /// The client that asks.
+    pub fn asking(&self) -> &Client {
+        &self.clients[self.client]
+    }
+
+    /// The call, its form written as a client library would.
+    pub fn call(&self) -> Call {
+        let pieces = self.params.0.iter().map(|(name, value)| [usual_writing(name), usual_writing(value)].join(&b'='));
+        self.finish(pieces.collect())
+    }
+
+    /// The call, its form written in one of the many other ways that mean the same.
+    pub fn call_in_any_writing(&self, rng: &mut Rng) -> Call {
+        let mut pieces = Vec::new();
+        for (name, value) in &self.params.0 {
+            let name = any_writing(name, rng, b"&%+=");
+            pieces.push([name, any_writing(value, rng, b"&%+")].join(&b'='));
+        }
+        for _ in 0..rng.pick(&[0, 0, 1, 3]) {
+            let meaningless =
+                ["", "state=", "scope", "client_id=", "code=", "=", "=x", "x", "nonce=1", "STATE=1", "state+=1"];
+            pieces.push(rng.pick(&meaningless).into());
+        }
+        rng.shuffle(&mut pieces);
+        self.finish(pieces)
+    }
+
+    fn finish(&self, mut pieces: Vec<Vec<u8>>) -> Call {
+        if !self.raw_piece.is_empty() {
+            pieces.push(self.raw_piece.clone());
+        }
+        let mut form = pieces.join(&b'&');
+        if form.len() < self.padded_to {
+            form.push(b'&');
+            form.resize(self.padded_to, b'p');
+        }
+        let request = match self.action {
+            Action::Authorize => Request::Authorize { query: form, decision: self.decision, farm: self.farm },
+            Action::Exchange | Action::Refresh => Request::Token { header: self.header.clone(), body: form },
+            Action::Check => Request::Check { token: self.token.clone() },
+        };
+        Call {
+            request,
+            registry: self.registry.clone(),
+            clock: self.clock,
+            random: self.random.clone(),
+            output: self.output,
+        }
+    }
+}
+
+fn usual_writing(bytes: &[u8]) -> Vec<u8> {
+    let written = bytes.iter().map(|&byte| match byte {
+        b' ' => "+".into(),
+        _ if byte.is_ascii_alphanumeric() || b"-._".contains(&byte) => char::from(byte).to_string(),
+        _ => format!("%{byte:02X}"),
+    });
+    written.collect::<String>().into_bytes()
+}
+
+fn any_writing(bytes: &[u8], rng: &mut Rng, escaped: &[u8]) -> Vec<u8> {
+    let share = rng.pick(&[0, 0, 10, 50, 100]);
+    let mut text = Vec::new();
+    for &byte in bytes {
+        match byte {
+            b' ' if rng.chance(50) => text.push(b'+'),
+            _ if escaped.contains(&byte) || rng.chance(share) => {
+                let digits = format!("{byte:02x}");
+                text.push(b'%');
+                text.extend(digits.bytes().map(
+                    |digit| {
+                        if rng.chance(50) {
+                            digit.to_ascii_uppercase()
+                        } else {
+                            digit
+                        }
+                    },
+                ));
+            }
+            _ => text.push(byte),
+        }
+    }
+    text
+}

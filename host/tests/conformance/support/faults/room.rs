@@ -1,0 +1,88 @@
+//! No room in the store, and random bytes that are in use: wherever something is issued.
+
+use poplarchime_host::sample::{self, Slot};
+
+use super::Apply;
+use crate::support::draft::{Action, Draft};
+use crate::support::rng::Rng;
+
+pub const ROOM: &[(&str, Apply)] = &[("no slot left", |d, rng| fill(d, rng, 0))];
+
+pub const CLASH: &[(&str, Apply)] = &[
+    ("random bytes of a live slot", |d, rng| clash(d, rng, 0)),
+    ("random bytes of a slot that has run out", |d, rng| clash_with_old(d, rng, sample::SLOTS - 1, 0)),
+    ("random bytes of the slot to be taken", |d, rng| {
+        let lowest = vacant(d).next().unwrap_or_default();
+        clash_with_old(d, rng, lowest, 0);
+    }),
+    ("random bytes of the presented slot", |d, rng| match d.action {
+        Action::Authorize => clash(d, rng, 0),
+        _ => d.random.splice(..20, d.presented_slot().handle).for_each(drop),
+    }),
+];
+
+pub const SECOND_CLASH: &[(&str, Apply)] = &[
+    ("last random bytes of a live slot", |d, rng| clash(d, rng, 20)),
+    ("last random bytes of a slot that has run out", |d, rng| clash_with_old(d, rng, sample::SLOTS - 1, 20)),
+    ("last random bytes of the presented slot", |d, _| {
+        d.random.splice(20.., d.presented_slot().handle).for_each(drop);
+    }),
+    ("first and last random bytes equal", |d, _| d.random.copy_within(..20, 20)),
+];
+
+/// The time of the draft's call.
+pub fn time(draft: &Draft) -> u64 {
+    draft.clock.max(sample::latest(&draft.store))
+}
+
+/// The slots that are free or have run out, lowest first.
+fn vacant(draft: &Draft) -> impl Iterator<Item = usize> + '_ {
+    let now = time(draft);
+    sample::slots(&draft.store).enumerate().filter(move |(_, slot)| !slot.is_live(now)).map(|(number, _)| number)
+}
+
+/// Fills all vacant slots with live ones but the last few.
+pub fn fill(draft: &mut Draft, rng: &mut Rng, left: usize) {
+    let vacant: Vec<usize> = vacant(draft).collect();
+    let expiry = time(draft) + 1;
+    for &number in &vacant[..vacant.len().saturating_sub(left)] {
+        let (kind, handle) = (rng.between(1, 4) as u8, rng.handle());
+        sample::set_slot(&mut draft.store, number, Slot { kind, handle, client: 0, farm: 1, scope: 1, expiry });
+    }
+}
+
+/// Gives the random bytes from `half` on to a live slot, other than the presented one.
+pub fn clash(draft: &mut Draft, rng: &mut Rng, half: usize) {
+    let (now, presented) = (time(draft), draft.presented);
+    let live: Vec<usize> = sample::slots(&draft.store)
+        .enumerate()
+        .filter(|&(number, slot)| slot.is_live(now) && number != presented)
+        .map(|(number, _)| number)
+        .collect();
+    let handle = handle_at(draft, half);
+    match live.is_empty() {
+        true => {
+            let slot = Slot { kind: sample::ACCESS, handle, client: 0, farm: 1, scope: 1, expiry: now + 1 };
+            sample::set_slot(&mut draft.store, sample::SLOTS - 1, slot);
+        }
+        false => draft.edit_slot(rng.pick(&live), |slot| slot.handle = handle),
+    }
+}
+
+/// Puts a slot that has run out, with the random bytes from `half` on, in the place of another.
+fn clash_with_old(draft: &mut Draft, rng: &mut Rng, number: usize, half: usize) {
+    let number = if number == draft.presented { (number + 1) % sample::SLOTS } else { number };
+    let slot = Slot {
+        kind: rng.between(1, 4) as u8,
+        handle: handle_at(draft, half),
+        client: 0,
+        farm: 0,
+        scope: 1,
+        expiry: time(draft),
+    };
+    sample::set_slot(&mut draft.store, number, slot);
+}
+
+fn handle_at(draft: &Draft, half: usize) -> [u8; 20] {
+    draft.random[half..half + 20].try_into().expect("twenty bytes")
+}

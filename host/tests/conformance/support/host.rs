@@ -1,0 +1,105 @@
+//! A host for written-out examples: it keeps one registry and one store, and runs both programs at every call.
+
+use poplarchime_host::answers::{CheckAnswer, ErrorWord};
+use poplarchime_host::sample::{self, Client, Slot};
+
+use super::call::{Answer, Call, Request};
+use super::compare::{run_both, After};
+
+pub struct Host {
+    pub registry: Vec<u8>,
+    pub store: Vec<u8>,
+}
+
+/// Twenty bytes that count up from the first.
+pub fn counting(first: u8) -> [u8; 20] {
+    std::array::from_fn(|at| first + at as u8)
+}
+
+/// The answer of the authorization endpoint.
+#[derive(Debug, PartialEq, Eq)]
+pub enum Authorized {
+    Refused(u32),
+    Redirected(String),
+}
+
+/// The answer of the token endpoint: status, whether it carries a challenge, and body.
+#[derive(Debug, PartialEq, Eq)]
+pub struct Reply {
+    pub status: u32,
+    pub challenge: bool,
+    pub body: String,
+}
+
+impl Host {
+    pub fn new(clients: &[Client]) -> Host {
+        Host { registry: sample::registry(clients), store: sample::empty_store() }
+    }
+
+    /// The host of the written-out visit.
+    pub fn visit() -> Host {
+        Host::new(&sample::visit_clients())
+    }
+
+    pub fn slot(&self, number: usize) -> Slot {
+        sample::slot(&self.store, number)
+    }
+
+    pub fn set_slot(&mut self, number: usize, slot: Slot) {
+        sample::set_slot(&mut self.store, number, slot);
+    }
+
+    fn run(&mut self, request: Request, clock: u64, random: &[u8]) -> After {
+        let call = Call { request, registry: self.registry.clone(), clock, random: random.to_vec(), output: 1024 };
+        let after = run_both(&call, &self.store);
+        self.store.clone_from(&after.store);
+        after
+    }
+
+    /// The random bytes are twenty that count up from `random`; the farm is 7.
+    pub fn authorize(&mut self, query: impl AsRef<[u8]>, decision: u64, clock: u64, random: u8) -> Authorized {
+        let request = Request::Authorize { query: query.as_ref().to_vec(), decision, farm: 7 };
+        let after = self.run(request, clock, &counting(random));
+        let Answer::Authorize(answer) = after.answer else { unreachable!() };
+        match answer.refusal {
+            0 => Authorized::Redirected(after.text()),
+            refusal => Authorized::Refused(refusal),
+        }
+    }
+
+    /// The random bytes are forty that count up from `random`.
+    pub fn token(&mut self, header: impl AsRef<[u8]>, body: impl AsRef<[u8]>, clock: u64, random: u8) -> Reply {
+        let request = Request::Token { header: header.as_ref().to_vec(), body: body.as_ref().to_vec() };
+        let after = self.run(request, clock, &[counting(random), counting(random + 20)].concat());
+        let Answer::Token(answer) = after.answer else { unreachable!() };
+        assert_eq!(answer.refusal, 0);
+        let word = ErrorWord::ALL.iter().find(|word| word.number() == answer.error);
+        let body = after.text();
+        if let Some(word) = word {
+            assert_eq!(body, format!("{{\"error\":\"{}\"}}", word.text()), "number and word of an error differ");
+        }
+        Reply { status: answer.status, challenge: answer.challenge == 1, body }
+    }
+
+    pub fn check(&mut self, token: impl AsRef<[u8]>, clock: u64) -> CheckAnswer {
+        let after = self.run(Request::Check { token: token.as_ref().to_vec() }, clock, &[]);
+        let Answer::Check(answer) = after.answer else { unreachable!() };
+        answer
+    }
+}
+
+pub fn redirected(location: &str) -> Authorized {
+    Authorized::Redirected(location.into())
+}
+
+pub fn granted(body: &str) -> Reply {
+    Reply { status: 200, challenge: false, body: body.into() }
+}
+
+pub fn bad_request(word: &str) -> Reply {
+    Reply { status: 400, challenge: false, body: format!("{{\"error\":\"{word}\"}}") }
+}
+
+pub fn unauthorized(challenge: bool) -> Reply {
+    Reply { status: 401, challenge, body: "{\"error\":\"invalid_client\"}".into() }
+}

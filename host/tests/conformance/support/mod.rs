@@ -1,0 +1,10 @@
+//! What the tests share: calls as data, both programs side by side, requests to spoil, and counts of outcomes.
+
+pub mod call;
+pub mod compare;
+pub mod draft;
+pub mod faults;
+pub mod host;
+pub mod rng;
+pub mod tally;
+pub mod world;

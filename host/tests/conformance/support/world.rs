@@ -1,0 +1,358 @@
+//! Random registries, stores and requests. Requests are mostly sound, with one or two things wrong, so that they get
+//! past the first tests and reach the deep ones.
+
+use std::sync::Arc;
+
+use poplarchime_host::sample::{self, Client, Slot};
+
+use super::call::{Call, Request};
+use super::compare::After;
+use super::draft::{Action, Draft};
+use super::faults::{faults, give_scope, Fault, Step};
+use super::rng::Rng;
+use super::tally::Tally;
+
+const CLOCK_LIMIT: u64 = 1 << 40;
+
+/// What a store is like at the start of a sequence.
+#[derive(Clone, Copy, Debug, PartialEq, Eq)]
+pub enum Start {
+    /// All zero, as at the first start of a host.
+    Fresh,
+    /// Some slots in use, some of them run out.
+    PartlyFilled,
+    /// A few slots short of full, nothing runs out soon.
+    NearlyFull,
+    /// No free slot, but all have run out or are about to.
+    RunningOut,
+    /// Fit, but not a store that calls could have left: few handles, in many slots of any kind and expiry.
+    Odd,
+}
+
+impl Start {
+    pub const ALL: [Start; 5] = [Start::Fresh, Start::PartlyFilled, Start::NearlyFull, Start::RunningOut, Start::Odd];
+}
+
+/// One registry, and a store that is carried from call to call.
+pub struct World {
+    pub clients: Arc<[Client]>,
+    pub store: Vec<u8>,
+    /// Odd stores take their handles from here.
+    few_handles: Vec<[u8; 20]>,
+    faults: [Vec<Fault>; 4],
+    /// Some of the calls that issued something, to be made again.
+    granted: Vec<(Action, Call)>,
+}
+
+/// A call, and the store that it is handed. It is the world's own unless a fault needed another.
+pub struct Drawn {
+    pub action: Action,
+    pub call: Call,
+    pub store: Vec<u8>,
+    /// The draft had no fault and was not damaged.
+    pub sound: bool,
+}
+
+impl World {
+    pub fn new(clients: Vec<Client>, start: Start, rng: &mut Rng) -> World {
+        let few_handles = match start {
+            Start::Odd => (0..8).map(|_| rng.handle()).collect(),
+            _ => Vec::new(),
+        };
+        let mut world = World {
+            clients: clients.into(),
+            store: sample::empty_store(),
+            few_handles,
+            faults: Action::ALL.map(faults),
+            granted: Vec::new(),
+        };
+        world.fill(start, rng);
+        world
+    }
+
+    fn fill(&mut self, start: Start, rng: &mut Rng) {
+        if start == Start::Fresh {
+            return;
+        }
+        let latest = rng.pick(&[0, 1_000, 1_700_000_000, CLOCK_LIMIT - 5_000]) + rng.below(100) as u64;
+        sample::set_latest(&mut self.store, latest);
+        let share = match start {
+            Start::PartlyFilled | Start::Odd => rng.between(5, 95),
+            _ => 100,
+        };
+        for number in 0..sample::SLOTS {
+            if rng.chance(share) {
+                let slot = self.random_slot(start, latest, rng);
+                sample::set_slot(&mut self.store, number, slot);
+            }
+        }
+        if start == Start::NearlyFull {
+            for _ in 0..rng.below(5) {
+                sample::set_slot(&mut self.store, rng.below(sample::SLOTS), Slot::default());
+            }
+        }
+    }
+
+    fn random_slot(&self, start: Start, latest: u64, rng: &mut Rng) -> Slot {
+        let soon = latest + rng.below(900) as u64;
+        let expiry = match start {
+            Start::PartlyFilled => {
+                rng.pick(&[latest, latest.saturating_sub(1), latest + 1, soon, latest + 3_600, latest + 2_592_000])
+            }
+            Start::RunningOut => rng.pick(&[0, latest, latest + 1, latest + 2, latest + 3, soon]),
+            Start::Odd => {
+                rng.pick(&[0, latest, latest + 1, soon, CLOCK_LIMIT, CLOCK_LIMIT + 1, u64::MAX - 1, u64::MAX])
+            }
+            _ => rng.pick(&[latest + 500, latest + 3_600, latest + 2_592_000]),
+        };
+        Slot {
+            kind: rng.between(1, 4) as u8,
+            handle: self.handle(rng),
+            client: rng.below(self.clients.len()) as u8,
+            farm: rng.pick(&[0, 1, 7, 0x0102_0304, u32::MAX]),
+            scope: rng.between(1, 255) as u8,
+            expiry,
+        }
+    }
+
+    fn handle(&self, rng: &mut Rng) -> [u8; 20] {
+        match self.few_handles.is_empty() || rng.chance(20) {
+            true => rng.handle(),
+            false => rng.pick(&self.few_handles),
+        }
+    }
+
+    /// Changes a slot to something else that is fit, as no call would.
+    pub fn disturb(&mut self, rng: &mut Rng) {
+        let slot = self.random_slot(Start::Odd, sample::latest(&self.store), rng);
+        sample::set_slot(&mut self.store, rng.below(sample::SLOTS), slot);
+        let (from, to) = (rng.below(sample::SLOTS), rng.below(sample::SLOTS));
+        let copy = sample::slot(&self.store, from);
+        sample::set_slot(&mut self.store, to, copy);
+    }
+
+    /// The next call. Reasons that were put in are counted.
+    pub fn draw(&self, rng: &mut Rng, reasons: &mut Tally) -> Drawn {
+        if !self.granted.is_empty() && rng.chance(4) {
+            return self.draw_again(rng, reasons);
+        }
+        let action = rng.pick(&[Action::Authorize, Action::Exchange, Action::Exchange, Action::Refresh, Action::Check]);
+        let mut draft = self.sound_draft(action, rng);
+        let sound = self.spoil(&mut draft, rng, reasons);
+        let mut call = draft.call_in_any_writing(rng);
+        let damaged = rng.chance(8);
+        if damaged {
+            damage(&mut call.request, rng);
+            reasons.add(format!("{}: damaged bytes", action.name()));
+        }
+        Drawn { action, call, store: draft.store, sound: sound && !damaged }
+    }
+
+    /// A call that was granted, once more: at another time and mostly with other random bytes.
+    fn draw_again(&self, rng: &mut Rng, reasons: &mut Tally) -> Drawn {
+        let (action, mut call) = self.granted[rng.below(self.granted.len())].clone();
+        call.clock = self.choose_clock(0, rng);
+        if rng.chance(90) {
+            call.random.fill_with(|| rng.byte());
+        }
+        reasons.add(format!("{}: made again", action.name()));
+        Drawn { action, call, store: self.store.clone(), sound: false }
+    }
+
+    /// Takes the store over that a call has left.
+    pub fn carry(&mut self, drawn: Drawn, after: After, rng: &mut Rng) {
+        self.store = after.store;
+        if after.answer.issued() {
+            self.granted.truncate(20);
+            self.granted.insert(rng.below(self.granted.len() + 1), (drawn.action, drawn.call));
+        }
+    }
+
+    /// Every reason that `draw` can count.
+    pub fn reasons() -> Vec<String> {
+        let mut reasons = Vec::new();
+        for action in Action::ALL {
+            reasons.extend(faults(action).iter().map(|fault| format!("{}: {}", action.name(), fault.reason)));
+            reasons.push(format!("{}: damaged bytes", action.name()));
+        }
+        for action in [Action::Authorize, Action::Exchange, Action::Refresh] {
+            reasons.push(format!("{}: made again", action.name()));
+        }
+        reasons.sort();
+        reasons.dedup();
+        reasons
+    }
+
+    fn sound_draft(&self, action: Action, rng: &mut Rng) -> Draft {
+        let slot = self.choose_slot(action, rng);
+        let clock = self.choose_clock(slot, rng);
+        let mut random = [self.random_for_issue(rng), self.random_for_issue(rng)].concat();
+        match action {
+            Action::Authorize => {
+                random.truncate(20);
+                let client = rng.below(self.clients.len());
+                let mut draft = Draft::authorize(&self.clients, &self.store, clock, client, random);
+                draft.farm = rng.next() as u32;
+                if rng.chance(40) {
+                    draft.params.push("redirect_uri", &self.clients[client].redirect);
+                }
+                if rng.chance(40) {
+                    give_scope(&mut draft, rng);
+                }
+                if rng.chance(60) {
+                    draft.params.push("state", rng.pick(&["xyz", "a b&c=d%", "~", "100%25"]));
+                }
+                draft
+            }
+            Action::Exchange | Action::Refresh => {
+                let mut draft = Draft::token(action, &self.clients, &self.store, clock, slot, random);
+                if rng.chance(5) {
+                    draft.authenticate(rng.below(self.clients.len()));
+                }
+                draft
+            }
+            Action::Check => Draft::check(&self.clients, &self.store, clock, slot),
+        }
+    }
+
+    /// A slot that holds what the action presents, a live one if there is one; or else any slot.
+    fn choose_slot(&self, action: Action, rng: &mut Rng) -> usize {
+        let kinds: &[u8] = match action {
+            Action::Authorize => return 0,
+            Action::Exchange => &[sample::CODE, sample::BOUND_CODE],
+            Action::Refresh => &[sample::REFRESH],
+            Action::Check => &[sample::ACCESS],
+        };
+        let latest = sample::latest(&self.store);
+        let held = || sample::slots(&self.store).enumerate().filter(|(_, slot)| kinds.contains(&slot.kind));
+        let live: Vec<usize> = held().filter(|(_, slot)| slot.is_live(latest)).map(|(number, _)| number).collect();
+        let any: Vec<usize> = held().map(|(number, _)| number).collect();
+        match (live.is_empty(), any.is_empty()) {
+            (false, _) if rng.chance(90) => rng.pick(&live),
+            (_, false) => rng.pick(&any),
+            _ => rng.below(sample::SLOTS),
+        }
+    }
+
+    /// Mostly the time goes on by a few seconds; now and then it goes back, or right to an expiry.
+    fn choose_clock(&self, slot: usize, rng: &mut Rng) -> u64 {
+        let latest = sample::latest(&self.store);
+        let clock = match rng.below(100) {
+            0..=3 => 0,
+            4..=13 => latest.saturating_sub(rng.below(5_000) as u64),
+            14..=19 => self.near_expiry(slot, rng),
+            20..=23 => self.near_expiry(rng.below(sample::SLOTS), rng),
+            24..=26 => latest + rng.below(4_000) as u64,
+            27 => latest + rng.below(2_700_000) as u64,
+            _ => latest + rng.below(4) as u64,
+        };
+        clock.min(CLOCK_LIMIT)
+    }
+
+    /// A clock around the expiry of a slot, unless that is years away.
+    fn near_expiry(&self, slot: usize, rng: &mut Rng) -> u64 {
+        let latest = sample::latest(&self.store);
+        let clock = sample::slot(&self.store, slot).expiry.saturating_sub(1).saturating_add(rng.below(3) as u64);
+        match clock < latest + 5_000_000 {
+            true => clock,
+            false => latest,
+        }
+    }
+
+    fn random_for_issue(&self, rng: &mut Rng) -> [u8; 20] {
+        let slot = sample::slot(&self.store, rng.below(sample::SLOTS));
+        match slot.kind != sample::FREE && rng.chance(3) {
+            true => slot.handle,
+            false if rng.chance(50) => rng.handle(),
+            false => self.handle(rng),
+        }
+    }
+
+    /// Puts in up to two oddities and up to two faults. Says whether there was no fault.
+    fn spoil(&self, draft: &mut Draft, rng: &mut Rng, reasons: &mut Tally) -> bool {
+        let faults = &self.faults[draft.action as usize];
+        let mut steps = Vec::new();
+        for _ in 0..rng.pick(&[0, 0, 0, 1, 1, 1, 2]) {
+            steps.push(choose_step(faults, rng));
+        }
+        steps.retain(|&step| step != Step::Harmless);
+        steps.dedup();
+        let sound = steps.is_empty();
+        steps.extend(vec![Step::Harmless; rng.below(3)]);
+        // Later steps first: an earlier one has the last word, and may leave buffers that cannot be edited.
+        steps.sort_by(|one, other| other.cmp(one));
+        for step in steps {
+            let choices: Vec<&Fault> = faults.iter().filter(|fault| fault.step == step).collect();
+            let fault = rng.pick(&choices);
+            fault.apply(draft, rng);
+            reasons.add(format!("{}: {}", draft.action.name(), fault.reason));
+        }
+        sound
+    }
+}
+
+/// One of the steps that the faults are at, those with many reasons more often.
+fn choose_step(faults: &[Fault], rng: &mut Rng) -> Step {
+    let mut steps: Vec<Step> = faults.iter().map(|fault| fault.step).collect();
+    if rng.chance(75) {
+        steps.sort();
+        steps.dedup();
+    }
+    rng.pick(&steps)
+}
+
+/// Changes, drops, inserts or repeats a few bytes of what the outside sent.
+fn damage(request: &mut Request, rng: &mut Rng) {
+    let bytes = match request {
+        Request::Authorize { query, .. } => query,
+        Request::Token { header, body } => match rng.chance(50) {
+            true => header,
+            false => body,
+        },
+        Request::Check { token } => token,
+    };
+    for _ in 0..rng.between(1, 3) {
+        let at = rng.below(bytes.len() + 1);
+        let byte = rng.pick(b"&&==%%++ 09afAF:z\0\x7f\xff");
+        match rng.below(5) {
+            0 if at < bytes.len() => bytes[at] = byte,
+            1 if at < bytes.len() => drop(bytes.remove(at)),
+            2 => bytes.truncate(at),
+            3 => {
+                let tail = bytes[at..].to_vec();
+                bytes.extend(tail);
+            }
+            _ => bytes.insert(at, byte),
+        }
+    }
+}
+
+/// Random clients with ids, redirects and secrets of every length and byte allowed.
+pub fn random_clients(count: usize, rng: &mut Rng) -> Vec<Client> {
+    let mut clients: Vec<Client> = Vec::new();
+    while clients.len() < count {
+        let id = random_text(rng, &[1, 2, 9, 31, 32], 0x20, b':');
+        let redirect = match rng.chance(20) {
+            true => random_text(rng, &[1, 2, 50, 199, 200], 0x21, b'#'),
+            false => [&b"https://"[..], &random_text(rng, &[1, 20, 191, 192], 0x21, b'#')].concat(),
+        };
+        let secret = rng.chance(60).then(|| random_text(rng, &[1, 2, 20, 63, 64], 0x20, 0));
+        if clients.iter().all(|other| other.id != id) {
+            clients.push(Client { id, redirect, scope: rng.between(1, 255) as u8, secret });
+        }
+    }
+    clients
+}
+
+/// Of one of the lengths, bytes from the lowest to 7e but for one.
+fn random_text(rng: &mut Rng, lengths: &[usize], lowest: usize, without: u8) -> Vec<u8> {
+    let mut text = Vec::new();
+    let length = rng.pick(lengths);
+    while text.len() < length {
+        let byte = rng.between(lowest, 0x7e) as u8;
+        if byte != without {
+            text.push(byte);
+        }
+    }
+    text
+}
