@@ -25,15 +25,6 @@ returns c =
     let a = c .before .before .before .args in
     admit-buffers (a .registry .now) (a .store .now) (a .clock) (a .fits) (not-true (a .fits) (c .if1 .taken))
 
-fitness-of-requires : tie.Need-fitness-of-requires
-fitness-of-requires c κs = search needs
-
-enum-known-clients : tie.Need-enum-known-clients
-enum-known-clients c = search needs
-
-enum-told : tie.Need-enum-told
-enum-told c = search needs
-
 returns-2 : tie.Need-returns-2
 returns-2 c =
     let a = c .before .before .before .before .before .before .args in
@@ -42,9 +33,6 @@ returns-2 c =
 
 cast-fit : tie.Need-cast-fit
 cast-fit c = omega (arith, few-clients (c .before .before .before .before .before .before .before .args .registry .now) (c .before .clients .given .0 .0) (clients (c .before)))
-
-fit-requires : tie.Need-fit-requires
-fit-requires c κs = search needs
 
 returns-3 : tie.Need-returns-3
 returns-3 c =
@@ -69,12 +57,12 @@ admit-spec =
     tie.close
     (tie.spec
     returns
-    fitness-of-requires
-    enum-known-clients
-    enum-told
+    (λ c κs. search needs)
+    (λ c. search needs)
+    (λ c. search needs)
     returns-2
     cast-fit
-    fit-requires
+    (λ c κs. search needs)
     returns-3
     returns-4
     returns-5)

@@ -31,12 +31,6 @@ write-location-requires c κs =
     in
     (p .5, short, p .4, p .1 .within, p .1 .short)
 
-same-length : tie.Need-same-length
-same-length c = search needs
-
-same-length-2 : tie.Need-same-length-2
-same-length-2 c = search needs
-
 returns : tie.Need-returns
 returns c =
     let wrote = c .before .before in
@@ -59,6 +53,6 @@ answer-spec =
     decide-requires
     redirect-requires
     write-location-requires
-    same-length
-    same-length-2
+    (λ c. search needs)
+    (λ c. search needs)
     returns)

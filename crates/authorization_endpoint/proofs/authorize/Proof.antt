@@ -36,23 +36,11 @@ passed c = sym (c .enum-told .given .1) ∙ judged (c .before .before)
 past : (c : tie.After-enum-told) → let s = entry (c .before .before) in Admitted (unfit s) (s .args .registry .now) (s .args .store .now) (s .args .clock)
 past c = admitted _ _ _ _ (passed c)
 
-admit-requires : tie.Need-admit-requires
-admit-requires c κs = search needs
-
-enum-known-admitted : tie.Need-enum-known-admitted
-enum-known-admitted c = search needs
-
-same-length : tie.Need-same-length
-same-length c = search needs
-
 returns : tie.Need-returns
 returns c =
     let a = entry (c .before .before .before) .args in
     outcome-refused (a .query .now) (a .decision) (a .farm) (a .registry .now) (a .store .now) (a .clock) (a .random .now) (a .output .now)
     _ (sym (c .before .admitted .given .1) ∙ judged (c .before .before .before))
-
-enum-told : tie.Need-enum-told
-enum-told c = search needs
 
 begin-requires : tie.Need-begin-requires
 begin-requires c κs = store-size (past (c .before))
@@ -69,12 +57,6 @@ serve-requires c κs =
       fit .size,
       fit .room,
     )
-
-same-length-2 : tie.Need-same-length-2
-same-length-2 c = search needs
-
-same-length-3 : tie.Need-same-length-3
-same-length-3 c = search needs
 
 returns-2 : tie.Need-returns-2
 returns-2 c =
@@ -94,13 +76,13 @@ pub authorize-spec : {M : Type 1} → statement M
 authorize-spec =
     tie.close
     (tie.spec
-    admit-requires
-    enum-known-admitted
-    same-length
+    (λ c κs. search needs)
+    (λ c. search needs)
+    (λ c. search needs)
     returns
-    enum-told
+    (λ c. search needs)
     begin-requires
     serve-requires
-    same-length-2
-    same-length-3
+    (λ c. search needs)
+    (λ c. search needs)
     returns-2)

@@ -6,21 +6,9 @@ use Rattle.authorization_query.specs.Reading.{askedReading}
 use Rattle.authorization_endpoint.proofs.decide.Statement.{statement}
 use Rattle.authorization_endpoint.proofs.decide.Tie as tie
 
-enum-known-asked : tie.Need-enum-known-asked
-enum-known-asked c = search needs
-
-enum-known-asked-2 : tie.Need-enum-known-asked-2
-enum-known-asked-2 c = search needs
-
-grant-code-requires : tie.Need-grant-code-requires
-grant-code-requires c κs = search needs
-
 returns : tie.Need-returns
 unfolding askedReading decideReading slotsAfter
 returns c = rw (c .before .asked .given .1) (refl, refl)
-
-same-length : tie.Need-same-length
-same-length c = search needs
 
 returns-2 : tie.Need-returns-2
 unfolding askedReading decideReading
@@ -30,9 +18,9 @@ pub decide-spec : {M : Type 1} → statement M
 decide-spec =
     tie.close
     (tie.spec
-    enum-known-asked
-    enum-known-asked-2
-    grant-code-requires
+    (λ c. search needs)
+    (λ c. search needs)
+    (λ c κs. search needs)
     returns
-    same-length
+    (λ c. search needs)
     returns-2)

@@ -16,15 +16,6 @@ read : (c : tie.After-asking)
     → let a = entry c .args in readQuery (a .registry .now) (a .query .now) (a .decision) (a .farm) ≡ FromClient (c .asking .given .0 .0)
 read c = sym (c .before .before .read-query .ensures) ∙ c .asking .given .1
 
-read-query-requires : tie.Need-read-query-requires
-read-query-requires c κs = search needs
-
-enum-known-cause : tie.Need-enum-known-cause
-enum-known-cause c = search needs
-
-enum-known-asking : tie.Need-enum-known-asking
-enum-known-asking c = search needs
-
 answer-requires : tie.Need-answer-requires
 answer-requires c κs =
     let asked = c .before .before .before in
@@ -41,12 +32,6 @@ returns c =
     served-page (a .t) (a .registry .now) (a .query .now) (a .random .now) (a .store .now) (a .output .now) cause _
     (page-reading (a .registry .now) (a .query .now) (a .decision) (a .farm) cause (sym (c .before .before .before .read-query .ensures) ∙ c .before .cause .given .1))
 
-same-length : tie.Need-same-length
-same-length c = search needs
-
-same-length-2 : tie.Need-same-length-2
-same-length-2 c = search needs
-
 returns-2 : tie.Need-returns-2
 returns-2 c =
     let answered = c .before .before .before .before in
@@ -59,11 +44,11 @@ pub serve-spec : {M : Type 1} → statement M
 serve-spec =
     tie.close
     (tie.spec
-    read-query-requires
-    enum-known-cause
-    enum-known-asking
+    (λ c κs. search needs)
+    (λ c. search needs)
+    (λ c. search needs)
     answer-requires
     returns
-    same-length
-    same-length-2
+    (λ c. search needs)
+    (λ c. search needs)
     returns-2)

@@ -8,12 +8,9 @@ use Rattle.protocol.specs.Authorization.{isSoundState}
 use Rattle.authorization_location.proofs.is_sound_state.Statement.{statement}
 use Rattle.authorization_location.proofs.is_sound_state.Tie as tie
 
-all-in-class-requires : tie.Need-all-in-class-requires
-all-in-class-requires c κs = search needs
-
 returns : tie.Need-returns
 unfolding isSoundState
 returns c = ap (λ (ok : Bool). leb (length (c .before .before .args .state .now)) 200 && ok) (c .all-in-class .ensures)
 
 pub is-sound-state-spec : {M : Type 1} → statement M
-is-sound-state-spec = tie.close (tie.spec all-in-class-requires returns)
+is-sound-state-spec = tie.close (tie.spec (λ c κs. search needs) returns)

@@ -6,9 +6,6 @@ use Rattle.authorization_location.proofs.Location.{separator-more, sepa
 use Rattle.authorization_location.proofs.separator_of.Statement.{statement}
 use Rattle.authorization_location.proofs.separator_of.Tie as tie
 
-index-of-requires : tie.Need-index-of-requires
-index-of-requires c κs = search needs
-
 returns : tie.Need-returns
 returns c = sym (separator-more (c .before .before .before .args .redirect .now) (omega (arith, c .before .index-of .ensures)))
 
@@ -16,4 +13,4 @@ returns-2 : tie.Need-returns-2
 returns-2 c = sym (separator-first (c .before .before .before .args .redirect .now) (omega (arith, c .before .index-of .ensures)))
 
 pub separator-of-spec : {M : Type 1} → statement M
-separator-of-spec = tie.close (tie.spec index-of-requires returns returns-2)
+separator-of-spec = tie.close (tie.spec (λ c κs. search needs) returns returns-2)

@@ -5,21 +5,6 @@ use Rattle.authorization_location.proofs.Location.{error-written, error
 use Rattle.authorization_location.proofs.write_error.Statement.{statement}
 use Rattle.authorization_location.proofs.write_error.Tie as tie
 
-slice-aggregate-copy-at : tie.Need-slice-aggregate-copy-at
-slice-aggregate-copy-at c = search needs
-
-copy-at-requires : tie.Need-copy-at-requires
-copy-at-requires c κs = search needs
-
-add-write-word : tie.Need-add-write-word
-add-write-word c = search needs
-
-write-word-requires : tie.Need-write-word-requires
-write-word-requires c κs = search needs
-
-same-length : tie.Need-same-length
-same-length c = search needs
-
 returns : tie.Need-returns
 returns c =
     let wrote = c .before .before in
@@ -33,9 +18,9 @@ pub write-error-spec : {M : Type 1} → statement M
 write-error-spec =
     tie.close
     (tie.spec
-    slice-aggregate-copy-at
-    copy-at-requires
-    add-write-word
-    write-word-requires
-    same-length
+    (λ c. search needs)
+    (λ c κs. search needs)
+    (λ c. search needs)
+    (λ c κs. search needs)
+    (λ c. search needs)
     returns)

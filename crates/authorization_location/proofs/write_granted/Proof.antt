@@ -6,18 +6,6 @@ use Rattle.authorization_location.proofs.Location.{redirect-next, code-
 use Rattle.authorization_location.proofs.write_granted.Statement.{statement}
 use Rattle.authorization_location.proofs.write_granted.Tie as tie
 
-write-redirect-requires : tie.Need-write-redirect-requires
-write-redirect-requires c κs = search needs
-
-write-code-requires : tie.Need-write-code-requires
-write-code-requires c κs = search needs
-
-write-state-requires : tie.Need-write-state-requires
-write-state-requires c κs = search needs
-
-same-length : tie.Need-same-length
-same-length c = search needs
-
 returns : tie.Need-returns
 returns c =
     let at-state = c .before .before in
@@ -39,4 +27,4 @@ returns c =
 pub write-granted-spec : {M : Type 1} → statement M
 write-granted-spec =
     tie.close
-    (tie.spec write-redirect-requires write-code-requires write-state-requires same-length returns)
+    (tie.spec (λ c κs. search needs) (λ c κs. search needs) (λ c κs. search needs) (λ c. search needs) returns)

@@ -5,42 +5,9 @@ use Rattle.protocol.specs.Authorization.{locationText}
 use Rattle.authorization_location.proofs.write_location.Statement.{statement}
 use Rattle.authorization_location.proofs.write_location.Tie as tie
 
-enum-told : tie.Need-enum-told
-enum-told c = search needs
-
-write-granted-requires : tie.Need-write-granted-requires
-write-granted-requires c κs = search needs
-
-enum-known-decision : tie.Need-enum-known-decision
-enum-known-decision c = search needs
-
-enum-known-refusal : tie.Need-enum-known-refusal
-enum-known-refusal c = search needs
-
-write-refused-requires : tie.Need-write-refused-requires
-write-refused-requires c κs = search needs
-
-enum-told-2 : tie.Need-enum-told-2
-enum-told-2 c = search needs
-
-enum-told-3 : tie.Need-enum-told-3
-enum-told-3 c = search needs
-
-enum-told-4 : tie.Need-enum-told-4
-enum-told-4 c = search needs
-
-enum-told-5 : tie.Need-enum-told-5
-enum-told-5 c = search needs
-
-same-length : tie.Need-same-length
-same-length c = search needs
-
 returns : tie.Need-returns
 unfolding locationText
 returns c = rw (c .before .before .before .before .enum-told .given .1) (c .before .before .write-granted .ensures)
-
-same-length-2 : tie.Need-same-length-2
-same-length-2 c = search needs
 
 returns-2 : tie.Need-returns-2
 unfolding locationText
@@ -69,18 +36,18 @@ pub write-location-spec : {M : Type 1} → statement M
 write-location-spec =
     tie.close
     (tie.spec
-    enum-told
-    write-granted-requires
-    enum-known-decision
-    enum-known-refusal
-    write-refused-requires
-    enum-told-2
-    enum-told-3
-    enum-told-4
-    enum-told-5
-    same-length
+    (λ c. search needs)
+    (λ c κs. search needs)
+    (λ c. search needs)
+    (λ c. search needs)
+    (λ c κs. search needs)
+    (λ c. search needs)
+    (λ c. search needs)
+    (λ c. search needs)
+    (λ c. search needs)
+    (λ c. search needs)
     returns
-    same-length-2
+    (λ c. search needs)
     returns-2
     returns-3
     returns-4

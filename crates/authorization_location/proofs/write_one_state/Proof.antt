@@ -15,23 +15,11 @@ unsound c = sym (c .before .is-sound-state .ensures) ∙ not-true _ (c .if1 .tak
 sound : (c : tie.Else1) → isSoundState (c .before .before .before .before .args .state .now) ≡ true
 sound c = sym (c .before .is-sound-state .ensures) ∙ not-false _ (c .if1 .left)
 
-is-sound-state-requires : tie.Need-is-sound-state-requires
-is-sound-state-requires c κs = search needs
-
 returns : tie.Need-returns
 returns c =
     let a = c .before .before .before .before .args in
     let w = state-unsound (a .output .now) (a .at) (a .state .now) (unsound c) in
     (w .next-is, w .bytes-are)
-
-slice-aggregate-copy-at : tie.Need-slice-aggregate-copy-at
-slice-aggregate-copy-at c = search needs
-
-copy-at-requires : tie.Need-copy-at-requires
-copy-at-requires c κs = search needs
-
-add-write-value : tie.Need-add-write-value
-add-write-value c = search needs
 
 write-value-requires : tie.Need-write-value-requires
 write-value-requires c κs =
@@ -39,9 +27,6 @@ write-value-requires c κs =
     let past = named .before .before .before in
     let start = past .before .before .before .before in
     omega (arith, start .pre, sound-length (start .args .state .now) (sound past), named .copy-at .kept .0)
-
-same-length : tie.Need-same-length
-same-length c = search needs
 
 returns-2 : tie.Need-returns-2
 returns-2 c =
@@ -57,11 +42,11 @@ pub write-one-state-spec : {M : Type 1} → statement M
 write-one-state-spec =
     tie.close
     (tie.spec
-    is-sound-state-requires
+    (λ c κs. search needs)
     returns
-    slice-aggregate-copy-at
-    copy-at-requires
-    add-write-value
+    (λ c. search needs)
+    (λ c κs. search needs)
+    (λ c. search needs)
     write-value-requires
-    same-length
+    (λ c. search needs)
     returns-2)

@@ -5,21 +5,6 @@ use Rattle.authorization_location.proofs.Location.{redirect-written}
 use Rattle.authorization_location.proofs.write_redirect.Statement.{statement}
 use Rattle.authorization_location.proofs.write_redirect.Tie as tie
 
-copy-at-requires : tie.Need-copy-at-requires
-copy-at-requires c κs = search needs
-
-separator-of-requires : tie.Need-separator-of-requires
-separator-of-requires c κs = search needs
-
-slice-write-output : tie.Need-slice-write-output
-slice-write-output c = search needs
-
-add-result : tie.Need-add-result
-add-result c = search needs
-
-same-length : tie.Need-same-length
-same-length c = search needs
-
 returns : tie.Need-returns
 returns c =
     let a = c .before .before .before .before .before .before .before .args in
@@ -29,9 +14,9 @@ pub write-redirect-spec : {M : Type 1} → statement M
 write-redirect-spec =
     tie.close
     (tie.spec
-    copy-at-requires
-    separator-of-requires
-    slice-write-output
-    add-result
-    same-length
+    (λ c κs. search needs)
+    (λ c κs. search needs)
+    (λ c. search needs)
+    (λ c. search needs)
+    (λ c. search needs)
     returns)

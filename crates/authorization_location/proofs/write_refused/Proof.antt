@@ -6,18 +6,6 @@ use Rattle.authorization_location.proofs.Location.{redirect-next, locat
 use Rattle.authorization_location.proofs.write_refused.Statement.{statement}
 use Rattle.authorization_location.proofs.write_refused.Tie as tie
 
-write-redirect-requires : tie.Need-write-redirect-requires
-write-redirect-requires c κs = search needs
-
-write-error-requires : tie.Need-write-error-requires
-write-error-requires c κs = search needs
-
-write-state-requires : tie.Need-write-state-requires
-write-state-requires c κs = search needs
-
-same-length : tie.Need-same-length
-same-length c = search needs
-
 returns : tie.Need-returns
 returns c =
     let at-state = c .before .before in
@@ -38,8 +26,8 @@ pub write-refused-spec : {M : Type 1} → statement M
 write-refused-spec =
     tie.close
     (tie.spec
-    write-redirect-requires
-    write-error-requires
-    write-state-requires
-    same-length
+    (λ c κs. search needs)
+    (λ c κs. search needs)
+    (λ c κs. search needs)
+    (λ c. search needs)
     returns)

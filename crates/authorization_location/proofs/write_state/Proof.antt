@@ -16,17 +16,11 @@ decoded : (c : tie.After-value-into)
 decoded c =
     front-value (start c .args .query .now) (start c .args .state) (start c .pre .1) _ _ (c .value-into .ensures .0) (c .value-into .ensures .1)
 
-is-missing-requires : tie.Need-is-missing-requires
-is-missing-requires c κs = search needs
-
 returns : tie.Need-returns
 returns c =
     let a = c .before .before .before .before .args in
     let w = state-missing (a .output .now) (a .at) (viewOf (a .query .now) (a .state)) (sym (c .before .is-missing .ensures) ∙ c .if1 .taken) in
     (w .next-is, w .bytes-are)
-
-is-repeated-requires : tie.Need-is-repeated-requires
-is-repeated-requires c κs = search needs
 
 returns-2 : tie.Need-returns-2
 returns-2 c =
@@ -34,23 +28,11 @@ returns-2 c =
     let w = state-repeated (a .output .now) (a .at) (viewOf (a .query .now) (a .state)) (sym (c .before .is-repeated .ensures) ∙ c .if2 .taken) in
     (w .next-is, w .bytes-are)
 
-slice-aggregate-value-into : tie.Need-slice-aggregate-value-into
-slice-aggregate-value-into c = search needs
-
-value-into-requires : tie.Need-value-into-requires
-value-into-requires c κs = search needs
-
 array-share-prefix-buffer : tie.Need-array-share-prefix-buffer
 array-share-prefix-buffer c = decoded (c .before .before) .fits
 
 slice-aggregate-write-one-state : tie.Need-slice-aggregate-write-one-state
 slice-aggregate-write-one-state c = decoded (c .before .before .before) .count
-
-write-one-state-requires : tie.Need-write-one-state-requires
-write-one-state-requires c κs = search needs
-
-same-length : tie.Need-same-length
-same-length c = search needs
 
 returns-3 : tie.Need-returns-3
 returns-3 c =
@@ -68,14 +50,14 @@ pub write-state-spec : {M : Type 1} → statement M
 write-state-spec =
     tie.close
     (tie.spec
-    is-missing-requires
+    (λ c κs. search needs)
     returns
-    is-repeated-requires
+    (λ c κs. search needs)
     returns-2
-    slice-aggregate-value-into
-    value-into-requires
+    (λ c. search needs)
+    (λ c κs. search needs)
     array-share-prefix-buffer
     slice-aggregate-write-one-state
-    write-one-state-requires
-    same-length
+    (λ c κs. search needs)
+    (λ c. search needs)
     returns-3)

@@ -43,19 +43,10 @@ fitting c =
 within : (c : tie.Else3) → let s = entry (c .before .before .before .before .before .before .before .before) in fits (scopeIn s) (s .args .held) ≡ true
 within c = fitting (c .before) ∙ not-false _ (c .if3 .left)
 
-is-invalid-request-requires : tie.Need-is-invalid-request-requires
-is-invalid-request-requires c κs = search needs
-
 returns : tie.Need-returns
 returns c =
     let a = c .before .before .before .args in
     ask-invalid (a .held) (a .query .now) (a .decision) (a .farm) (sym (c .before .is-invalid-request .ensures) ∙ c .if1 .taken)
-
-array-copy-out-kind : tie.Need-array-copy-out-kind
-array-copy-out-kind c = search needs
-
-slice-aggregate-is-once : tie.Need-slice-aggregate-is-once
-slice-aggregate-is-once c = search needs
 
 is-once-requires : tie.Need-is-once-requires
 is-once-requires c κs = place-within _ _ (c .before .before .before .before .before .pre) 0
@@ -66,14 +57,8 @@ returns-2 c =
     let a = entry sound .args in
     ask-other (a .held) (a .query .now) (a .decision) (a .farm) (valid sound) (once (c .before) ∙ not-true _ (c .if2 .taken))
 
-array-copy-out-scope : tie.Need-array-copy-out-scope
-array-copy-out-scope c = search needs
-
 scope-asked-requires : tie.Need-scope-asked-requires
 scope-asked-requires c κs = let r = c .before .before .before .before .before .before .before .before .pre in (place-within _ _ r 3, good-short _ (r .good))
-
-scope-fits-requires : tie.Need-scope-fits-requires
-scope-fits-requires c κs = search needs
 
 returns-3 : tie.Need-returns-3
 returns-3 c =
@@ -90,15 +75,6 @@ returns-4 c =
     let a = entry sound .args in
     ask-denied (a .held) (a .query .now) (a .decision) (a .farm) (valid sound) (code typed) (within fitted) (c .if4 .taken)
 
-array-copy-out-redirect : tie.Need-array-copy-out-redirect
-array-copy-out-redirect c = search needs
-
-scope-given-requires : tie.Need-scope-given-requires
-scope-given-requires c κs = search needs
-
-is-missing-requires : tie.Need-is-missing-requires
-is-missing-requires c κs = search needs
-
 returns-5 : tie.Need-returns-5
 returns-5 c =
     let allowed = c .before .before .before in
@@ -114,18 +90,18 @@ pub ask-spec : {M : Type 1} → statement M
 ask-spec =
     tie.close
     (tie.spec
-    is-invalid-request-requires
+    (λ c κs. search needs)
     returns
-    array-copy-out-kind
-    slice-aggregate-is-once
+    (λ c. search needs)
+    (λ c. search needs)
     is-once-requires
     returns-2
-    array-copy-out-scope
+    (λ c. search needs)
     scope-asked-requires
-    scope-fits-requires
+    (λ c κs. search needs)
     returns-3
     returns-4
-    array-copy-out-redirect
-    scope-given-requires
-    is-missing-requires
+    (λ c. search needs)
+    (λ c κs. search needs)
+    (λ c κs. search needs)
     returns-5)

@@ -16,23 +16,11 @@ decoded c =
     let s = entry c in
     front-value (s .args .query .now) (s .args .state) (s .pre .1) _ _ (c .value-into .ensures .0) (c .value-into .ensures .1)
 
-slice-aggregate-value-into : tie.Need-slice-aggregate-value-into
-slice-aggregate-value-into c = search needs
-
-value-into-requires : tie.Need-value-into-requires
-value-into-requires c κs = search needs
-
 array-share-prefix-buffer : tie.Need-array-share-prefix-buffer
 array-share-prefix-buffer c = decoded (c .before) .fits
 
 slice-aggregate-is-sound-state : tie.Need-slice-aggregate-is-sound-state
 slice-aggregate-is-sound-state c = decoded (c .before .before) .count
-
-is-sound-state-requires : tie.Need-is-sound-state-requires
-is-sound-state-requires c κs = search needs
-
-is-repeated-requires : tie.Need-is-repeated-requires
-is-repeated-requires c κs = search needs
 
 returns : tie.Need-returns
 returns c =
@@ -44,10 +32,10 @@ pub is-bad-state-spec : {M : Type 1} → statement M
 is-bad-state-spec =
     tie.close
     (tie.spec
-    slice-aggregate-value-into
-    value-into-requires
+    (λ c. search needs)
+    (λ c κs. search needs)
     array-share-prefix-buffer
     slice-aggregate-is-sound-state
-    is-sound-state-requires
-    is-repeated-requires
+    (λ c κs. search needs)
+    (λ c κs. search needs)
     returns)

@@ -5,24 +5,6 @@ use Rattle.authorization_query.proofs.Names.{good-short, place-within, 
 use Rattle.authorization_query.proofs.is_invalid_request.Statement.{statement}
 use Rattle.authorization_query.proofs.is_invalid_request.Tie as tie
 
-array-copy-out-kind : tie.Need-array-copy-out-kind
-array-copy-out-kind c = search needs
-
-array-copy-out-scope : tie.Need-array-copy-out-scope
-array-copy-out-scope c = search needs
-
-array-copy-out-state : tie.Need-array-copy-out-state
-array-copy-out-state c = search needs
-
-is-missing-requires : tie.Need-is-missing-requires
-is-missing-requires c κs = search needs
-
-is-repeated-requires : tie.Need-is-repeated-requires
-is-repeated-requires c κs = search needs
-
-is-repeated-requires-2 : tie.Need-is-repeated-requires-2
-is-repeated-requires-2 c κs = search needs
-
 is-bad-state-requires : tie.Need-is-bad-state-requires
 is-bad-state-requires c κs = let r = c .before .before .before .before .before .before .before .pre in (place-within _ _ r 4, good-short _ (r .good))
 
@@ -38,11 +20,11 @@ pub is-invalid-request-spec : {M : Type 1} → statement M
 is-invalid-request-spec =
     tie.close
     (tie.spec
-    array-copy-out-kind
-    array-copy-out-scope
-    array-copy-out-state
-    is-missing-requires
-    is-repeated-requires
-    is-repeated-requires-2
+    (λ c. search needs)
+    (λ c. search needs)
+    (λ c. search needs)
+    (λ c κs. search needs)
+    (λ c κs. search needs)
+    (λ c κs. search needs)
     is-bad-state-requires
     returns)

@@ -3,14 +3,8 @@ use borrow.Author.Needs.{needs}
 use Rattle.authorization_query.proofs.is_other_redirect.Statement.{statement}
 use Rattle.authorization_query.proofs.is_other_redirect.Tie as tie
 
-is-missing-requires : tie.Need-is-missing-requires
-is-missing-requires c κs = search needs
-
-is-once-requires : tie.Need-is-once-requires
-is-once-requires c κs = search needs
-
 returns : tie.Need-returns
 returns c = rw (c .before .is-missing .ensures, c .is-once .ensures)
 
 pub is-other-redirect-spec : {M : Type 1} → statement M
-is-other-redirect-spec = tie.close (tie.spec is-missing-requires is-once-requires returns)
+is-other-redirect-spec = tie.close (tie.spec (λ c κs. search needs) (λ c κs. search needs) returns)

@@ -53,29 +53,14 @@ other c =
     let s = entry (c .before .before .before .before .before .before .before .before) in
     rw (← redirect-said _ _ (s .pre .1), ← c .before .redirect2 .ensures) (sym (c .is-other-redirect .ensures))
 
-array-copy-out-id : tie.Need-array-copy-out-id
-array-copy-out-id c = search needs
-
 client-named-requires : tie.Need-client-named-requires
 client-named-requires c κs = let start = c .before .before .before in (start .pre .0, place-within _ _ (start .pre .1) 1, good-short _ (start .pre .1 .good))
-
-enum-known-client : tie.Need-enum-known-client
-enum-known-client c = search needs
-
-enum-told : tie.Need-enum-told
-enum-told c = search needs
 
 returns : tie.Need-returns
 returns c =
     let start = c .before .before .before .before .before .before in
     let a = start .args in
     read-unknown (a .registry .now) (a .query .now) (a .decision) (a .farm) (start .pre .1 .good) (sym (named (c .before .before)) ∙ c .enum-told .given .1)
-
-array-copy-out-redirect : tie.Need-array-copy-out-redirect
-array-copy-out-redirect c = search needs
-
-is-repeated-requires : tie.Need-is-repeated-requires
-is-repeated-requires c κs = search needs
 
 returns-2 : tie.Need-returns-2
 returns-2 c =
@@ -101,12 +86,6 @@ returns-3 c =
 scope-set-requires : tie.Need-scope-set-requires
 scope-set-requires c κs = let client = c .before .before .before .before .before .before .before in (entry (client .before .before) .pre .0, is-entry client)
 
-ask-requires : tie.Need-ask-requires
-ask-requires c κs = search needs
-
-array-copy-out-state : tie.Need-array-copy-out-state
-array-copy-out-state c = search needs
-
 returns-4 : tie.Need-returns-4
 returns-4 c =
     let agreed = c .before .before .before in
@@ -122,18 +101,18 @@ pub read-places-spec : {M : Type 1} → statement M
 read-places-spec =
     tie.close
     (tie.spec
-    array-copy-out-id
+    (λ c. search needs)
     client-named-requires
-    enum-known-client
-    enum-told
+    (λ c. search needs)
+    (λ c. search needs)
     returns
-    array-copy-out-redirect
-    is-repeated-requires
+    (λ c. search needs)
+    (λ c κs. search needs)
     returns-2
     redirect-requires
     is-other-redirect-requires
     returns-3
     scope-set-requires
-    ask-requires
-    array-copy-out-state
+    (λ c κs. search needs)
+    (λ c. search needs)
     returns-4)

@@ -10,18 +10,6 @@ use Rattle.authorization_query.proofs.read_query.Tie as tie
 returns : tie.Need-returns
 returns c = let a = c .before .before .before .args in read-long (a .registry .now) (a .query .now) (a .decision) (a .farm) (c .if1 .taken)
 
-slice-aggregate-read : tie.Need-slice-aggregate-read
-slice-aggregate-read c = search needs
-
-read-requires : tie.Need-read-requires
-read-requires c κs = search needs
-
-enum-told : tie.Need-enum-told
-enum-told c = search needs
-
-enum-told-2 : tie.Need-enum-told-2
-enum-told-2 c = search needs
-
 returns-2 : tie.Need-returns-2
 returns-2 c =
     let a = c .before .before .before .before .before .before .before .args in
@@ -39,18 +27,15 @@ read-places-requires c κs =
     let formed = told-well-formed queryNames query (r .result) (r .ensures .0) (c .before .enum-told .given .1) in
     (start .pre, record { good = good-query query (short .if1 .left) formed; found = found-places query (r .result) (r .ensures .0) formed })
 
-returns-3 : tie.Need-returns-3
-returns-3 c = search needs
-
 pub read-query-spec : {M : Type 1} → statement M
 read-query-spec =
     tie.close
     (tie.spec
     returns
-    slice-aggregate-read
-    read-requires
-    enum-told
-    enum-told-2
+    (λ c. search needs)
+    (λ c κs. search needs)
+    (λ c. search needs)
+    (λ c. search needs)
     returns-2
     read-places-requires
-    returns-3)
+    (λ c. search needs))

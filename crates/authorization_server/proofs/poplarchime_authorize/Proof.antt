@@ -7,18 +7,6 @@ use Rattle.authorization_server.specs.Numbers.{authorizationReply}
 use Rattle.authorization_server.proofs.poplarchime_authorize.Statement.{statement}
 use Rattle.authorization_server.proofs.poplarchime_authorize.Tie as tie
 
-authorize-requires : tie.Need-authorize-requires
-authorize-requires c κs = search needs
-
-authorization-reply-requires : tie.Need-authorization-reply-requires
-authorization-reply-requires c κs = search needs
-
-same-length : tie.Need-same-length
-same-length c = search needs
-
-same-length-2 : tie.Need-same-length-2
-same-length-2 c = search needs
-
 returns : tie.Need-returns
 returns c =
     let served = c .before .before .before .before .before .authorize .ensures in
@@ -30,4 +18,4 @@ returns c =
 pub poplarchime-authorize-spec : {M : Type 1} → statement M
 poplarchime-authorize-spec =
     tie.close
-    (tie.spec authorize-requires authorization-reply-requires same-length same-length-2 returns)
+    (tie.spec (λ c κs. search needs) (λ c κs. search needs) (λ c. search needs) (λ c. search needs) returns)

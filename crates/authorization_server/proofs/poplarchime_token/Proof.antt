@@ -7,18 +7,6 @@ use Rattle.authorization_server.specs.Numbers.{tokenReply}
 use Rattle.authorization_server.proofs.poplarchime_token.Statement.{statement}
 use Rattle.authorization_server.proofs.poplarchime_token.Tie as tie
 
-token-requires : tie.Need-token-requires
-token-requires c κs = search needs
-
-token-reply-requires : tie.Need-token-reply-requires
-token-reply-requires c κs = search needs
-
-same-length : tie.Need-same-length
-same-length c = search needs
-
-same-length-2 : tie.Need-same-length-2
-same-length-2 c = search needs
-
 returns : tie.Need-returns
 returns c =
     let served = c .before .before .before .before .before .token .ensures in
@@ -30,4 +18,4 @@ returns c =
 pub poplarchime-token-spec : {M : Type 1} → statement M
 poplarchime-token-spec =
     tie.close
-    (tie.spec token-requires token-reply-requires same-length same-length-2 returns)
+    (tie.spec (λ c κs. search needs) (λ c κs. search needs) (λ c. search needs) (λ c. search needs) returns)

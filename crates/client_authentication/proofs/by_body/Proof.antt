@@ -55,22 +55,10 @@ kept c =
     let client = clientAt (clientsOf (s .args .registry .now)) (f .client .given .0 .0 .number) in
     ap (keepsSecret client) (sym (s .pre .3 .value)) ∙ sym (c .keeps-secret .ensures)
 
-is-missing-requires : tie.Need-is-missing-requires
-is-missing-requires c κs = search needs
-
 returns : tie.Need-returns
 returns c =
     let s = c .before .before .before .before in
     body-missing (s .args .registry .now) (s .args .body .now) (asked (c .before) ∙ c .if1 .taken)
-
-client-named-requires : tie.Need-client-named-requires
-client-named-requires c κs = search needs
-
-enum-known-client : tie.Need-enum-known-client
-enum-known-client c = search needs
-
-enum-told : tie.Need-enum-told
-enum-told c = search needs
 
 returns-2 : tie.Need-returns-2
 returns-2 c =
@@ -102,11 +90,11 @@ pub by-body-spec : {M : Type 1} → statement M
 by-body-spec =
     tie.close
     (tie.spec
-    is-missing-requires
+    (λ c κs. search needs)
     returns
-    client-named-requires
-    enum-known-client
-    enum-told
+    (λ c κs. search needs)
+    (λ c. search needs)
+    (λ c. search needs)
     returns-2
     keeps-secret-requires
     returns-3

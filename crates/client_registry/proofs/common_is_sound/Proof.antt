@@ -9,15 +9,6 @@ use Rattle.client_registry.proofs.Records.{tests-common}
 use Rattle.client_registry.proofs.common_is_sound.Statement.{statement}
 use Rattle.client_registry.proofs.common_is_sound.Tie as tie
 
-id-is-sound-requires : tie.Need-id-is-sound-requires
-id-is-sound-requires c κs = search needs
-
-redirect-is-sound-requires : tie.Need-redirect-is-sound-requires
-redirect-is-sound-requires c κs = search needs
-
-shared-slice-read-result : tie.Need-shared-slice-read-result
-shared-slice-read-result c = search needs
-
 returns : tie.Need-returns
 returns c =
     let r = c .before .before .before .before .args .r .now in
@@ -27,4 +18,4 @@ returns c =
 pub common-is-sound-spec : {M : Type 1} → statement M
 common-is-sound-spec =
     tie.close
-    (tie.spec id-is-sound-requires redirect-is-sound-requires shared-slice-read-result returns)
+    (tie.spec (λ c κs. search needs) (λ c κs. search needs) (λ c. search needs) returns)

@@ -56,44 +56,17 @@ returns c =
     let t = c .before in
     count-many (bytes t) (omega (arith, length-step (bytes t) (place t) (t .loop-test .taken)))
 
-shared-slice-read-record-size : tie.Need-shared-slice-read-record-size Inv-loop μ-loop
-shared-slice-read-record-size c = search needs
-
-record-size-requires : tie.Need-record-size-requires Inv-loop μ-loop
-record-size-requires c κs = search needs
-
-sub-if2 : tie.Need-sub-if2 Inv-loop μ-loop
-sub-if2 c = search needs
-
 returns-2 : tie.Need-returns-2 Inv-loop μ-loop
 returns-2 c =
     let t = sized (c .before) in
     let short : soundRecord (recordAt (bytes t) (place t)) ≡ false = record-short (bytes t) (place t) (omega (arith, c .before .record-size .ensures)) in
     count-unsound (bytes t) (sym (t .before .loop .inv .3) ∙ sound-stop (bytes t) (place t) (t .loop-test .taken) short)
 
-add-next : tie.Need-add-next Inv-loop μ-loop
-add-next c = search needs
-
-sub-record-is-sound : tie.Need-sub-record-is-sound Inv-loop μ-loop
-sub-record-is-sound c = search needs
-
-part-record-is-sound-start : tie.Need-part-record-is-sound-start Inv-loop μ-loop
-part-record-is-sound-start c = search needs
-
-part-record-is-sound-end : tie.Need-part-record-is-sound-end Inv-loop μ-loop
-part-record-is-sound-end c = search needs
-
-record-is-sound-requires : tie.Need-record-is-sound-requires Inv-loop μ-loop
-record-is-sound-requires c κs = search needs
-
 returns-3 : tie.Need-returns-3 Inv-loop μ-loop
 returns-3 c =
     let t = turn (c .before) in
     let bad : soundRecord (recordAt (bytes t) (place t)) ≡ false = sym (judged (c .before)) ∙ not-true _ (c .if3 .taken) in
     count-unsound (bytes t) (sym (t .before .loop .inv .3) ∙ sound-stop (bytes t) (place t) (t .loop-test .taken) bad)
-
-add-n : tie.Need-add-n Inv-loop μ-loop
-add-n c = search needs
 
 loop-less : tie.Need-loop-less Inv-loop μ-loop
 loop-less c =
@@ -136,17 +109,17 @@ count-records-spec =
     μ-loop
     loop-holds
     returns
-    shared-slice-read-record-size
-    record-size-requires
-    sub-if2
+    (λ c. search needs)
+    (λ c κs. search needs)
+    (λ c. search needs)
     returns-2
-    add-next
-    sub-record-is-sound
-    part-record-is-sound-start
-    part-record-is-sound-end
-    record-is-sound-requires
+    (λ c. search needs)
+    (λ c. search needs)
+    (λ c. search needs)
+    (λ c. search needs)
+    (λ c κs. search needs)
     returns-3
-    add-n
+    (λ c. search needs)
     loop-less
     loop-again
     returns-4

@@ -7,27 +7,6 @@ use Rattle.client_registry.proofs.Bytes.{part-to}
 use Rattle.client_registry.proofs.field_text.Statement.{statement}
 use Rattle.client_registry.proofs.field_text.Tie as tie
 
-add-from : tie.Need-add-from
-add-from c = search needs
-
-shared-slice-read-wide : tie.Need-shared-slice-read-wide
-shared-slice-read-wide c = search needs
-
-wide-requires : tie.Need-wide-requires
-wide-requires c κs = search needs
-
-add-to : tie.Need-add-to
-add-to c = search needs
-
-sub-result : tie.Need-sub-result
-sub-result c = search needs
-
-part-result-start : tie.Need-part-result-start
-part-result-start c = search needs
-
-part-result-end : tie.Need-part-result-end
-part-result-end c = search needs
-
 returns : tie.Need-returns
 returns c =
     let a = c .before .before .before .before .args in
@@ -38,11 +17,11 @@ pub field-text-spec : {M : Type 1} → statement M
 field-text-spec =
     tie.close
     (tie.spec
-    add-from
-    shared-slice-read-wide
-    wide-requires
-    add-to
-    sub-result
-    part-result-start
-    part-result-end
+    (λ c. search needs)
+    (λ c. search needs)
+    (λ c κs. search needs)
+    (λ c. search needs)
+    (λ c. search needs)
+    (λ c. search needs)
+    (λ c. search needs)
     returns)

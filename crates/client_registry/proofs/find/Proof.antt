@@ -60,12 +60,6 @@ returns c =
     let here = number-here id b (l .start) (t .loop-test .taken) (sym (c .before .has-id .ensures) ∙ c .if1 .taken) in
     found-here id b (l .number) (l .start) (omega (arith, here, l .inv .1)) (walked-below b (l .start) (l .number) (t .loop-test .taken) (l .inv .0)) (l .inv .0 .start)
 
-shared-slice-read-record-size : tie.Need-shared-slice-read-record-size Inv-loop μ-loop
-shared-slice-read-record-size c = search needs
-
-record-size-requires : tie.Need-record-size-requires Inv-loop μ-loop
-record-size-requires c κs = search needs
-
 add-start : tie.Need-add-start Inv-loop μ-loop
 add-start c = omega (arith, past c, record-fits (bytes (turn c)) (place (turn c)) (sound-here (turn c)))
 
@@ -108,8 +102,8 @@ find-spec =
     loop-holds
     has-id-requires
     returns
-    shared-slice-read-record-size
-    record-size-requires
+    (λ c. search needs)
+    (λ c κs. search needs)
     add-start
     add-number
     loop-less

@@ -9,15 +9,6 @@ use Rattle.client_registry.proofs.Fit.{records-counted, records-uncount
 use Rattle.client_registry.proofs.fitness_of.Statement.{statement}
 use Rattle.client_registry.proofs.fitness_of.Tie as tie
 
-count-records-requires : tie.Need-count-records-requires
-count-records-requires c κs = search needs
-
-enum-known-n : tie.Need-enum-known-n
-enum-known-n c = search needs
-
-enum-told : tie.Need-enum-told
-enum-told c = search needs
-
 returns : tie.Need-returns
 returns c =
     let b = c .before .before .before .before .args .b .now in
@@ -47,9 +38,9 @@ pub fitness-of-spec : {M : Type 1} → statement M
 fitness-of-spec =
     tie.close
     (tie.spec
-    count-records-requires
-    enum-known-n
-    enum-told
+    (λ c κs. search needs)
+    (λ c. search needs)
+    (λ c. search needs)
     returns
     ids-are-distinct-requires
     returns-2

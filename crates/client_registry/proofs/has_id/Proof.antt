@@ -19,9 +19,6 @@ field-text-requires c κs =
     let s = c .before .before in
     id-lies (s .args .b .now) (s .args .at) (s .pre) .fits
 
-equal-requires : tie.Need-equal-requires
-equal-requires c κs = search needs
-
 returns : tie.Need-returns
 returns c =
     let s = c .before .before .before .before in
@@ -29,4 +26,4 @@ returns c =
     ∙ ap (λ (x : List ℕ). same x (s .args .id .now)) (c .before .field-text .ensures ∙ id-lies (s .args .b .now) (s .args .at) (s .pre) .text)
 
 pub has-id-spec : {M : Type 1} → statement M
-has-id-spec = tie.close (tie.spec add-field-text field-text-requires equal-requires returns)
+has-id-spec = tie.close (tie.spec add-field-text field-text-requires (λ c κs. search needs) returns)

@@ -57,12 +57,6 @@ returns c =
     sym (new-stop (a .b .now) (place t) (idAt (a .b .now) (a .at)) (t .loop-test .taken) (sym (c .before .same-id .ensures) ∙ c .if1 .taken))
     ∙ t .before .loop .inv .1
 
-shared-slice-read-record-size : tie.Need-shared-slice-read-record-size Inv-loop μ-loop
-shared-slice-read-record-size c = search needs
-
-record-size-requires : tie.Need-record-size-requires Inv-loop μ-loop
-record-size-requires c κs = search needs
-
 add-p : tie.Need-add-p Inv-loop μ-loop
 add-p c = omega (arith, past c, record-fits (start (turn c) .args .b .now) (place (turn c)) (sound-here (turn c)))
 
@@ -97,8 +91,8 @@ id-is-new-spec =
     loop-holds
     same-id-requires
     returns
-    shared-slice-read-record-size
-    record-size-requires
+    (λ c. search needs)
+    (λ c κs. search needs)
     add-p
     loop-less
     loop-again

@@ -5,11 +5,8 @@ use Rattle.client_registry.proofs.Records.{tests-id}
 use Rattle.client_registry.proofs.id_is_sound.Statement.{statement}
 use Rattle.client_registry.proofs.id_is_sound.Tie as tie
 
-field-is-sound-requires : tie.Need-field-is-sound-requires
-field-is-sound-requires c κs = search needs
-
 returns : tie.Need-returns
 returns c = c .field-is-sound .ensures ∙ tests-id (c .before .before .args .r .now)
 
 pub id-is-sound-spec : {M : Type 1} → statement M
-id-is-sound-spec = tie.close (tie.spec field-is-sound-requires returns)
+id-is-sound-spec = tie.close (tie.spec (λ c κs. search needs) returns)

@@ -62,12 +62,6 @@ judged c =
 loop-holds : tie.Need-loop-holds Inv-loop μ-loop
 loop-holds c = (sound-records (c .before .args .b .now) (c .before .pre) .each, refl)
 
-shared-slice-read-record-size : tie.Need-shared-slice-read-record-size Inv-loop μ-loop
-shared-slice-read-record-size c = search needs
-
-record-size-requires : tie.Need-record-size-requires Inv-loop μ-loop
-record-size-requires c κs = search needs
-
 add-next : tie.Need-add-next Inv-loop μ-loop
 add-next c = omega (arith, past c, record-fits (bytes (turn c)) (place (turn c)) (sound-here (turn c)))
 
@@ -98,8 +92,8 @@ ids-are-distinct-spec =
     Inv-loop
     μ-loop
     loop-holds
-    shared-slice-read-record-size
-    record-size-requires
+    (λ c. search needs)
+    (λ c κs. search needs)
     add-next
     id-is-new-requires
     returns

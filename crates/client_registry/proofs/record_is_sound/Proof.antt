@@ -9,25 +9,10 @@ use Rattle.client_registry.proofs.Records.{tests-public, tests-confiden
 use Rattle.client_registry.proofs.record_is_sound.Statement.{statement}
 use Rattle.client_registry.proofs.record_is_sound.Tie as tie
 
-shared-slice-read-result : tie.Need-shared-slice-read-result
-shared-slice-read-result c = search needs
-
-common-is-sound-requires : tie.Need-common-is-sound-requires
-common-is-sound-requires c κs = search needs
-
 returns : tie.Need-returns
 returns c =
     let r = c .before .before .before .before .args .r .now in
     ap (λ (p : Bool). eqb (getD r 0 0) publicKind && p) (c .common-is-sound .ensures) ∙ tests-public r (c .before .before .if1 .taken)
-
-shared-slice-read-result-2 : tie.Need-shared-slice-read-result-2
-shared-slice-read-result-2 c = search needs
-
-common-is-sound-requires-2 : tie.Need-common-is-sound-requires-2
-common-is-sound-requires-2 c κs = search needs
-
-secret-is-sound-requires : tie.Need-secret-is-sound-requires
-secret-is-sound-requires c κs = search needs
 
 returns-2 : tie.Need-returns-2
 returns-2 c =
@@ -42,11 +27,11 @@ pub record-is-sound-spec : {M : Type 1} → statement M
 record-is-sound-spec =
     tie.close
     (tie.spec
-    shared-slice-read-result
-    common-is-sound-requires
+    (λ c. search needs)
+    (λ c κs. search needs)
     returns
-    shared-slice-read-result-2
-    common-is-sound-requires-2
-    secret-is-sound-requires
+    (λ c. search needs)
+    (λ c κs. search needs)
+    (λ c κs. search needs)
     returns-2
     returns-3)

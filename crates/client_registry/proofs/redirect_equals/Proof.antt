@@ -7,16 +7,10 @@ use Rattle.octets.specs.Lists.{same}
 use Rattle.client_registry.proofs.redirect_equals.Statement.{statement}
 use Rattle.client_registry.proofs.redirect_equals.Tie as tie
 
-redirect-requires : tie.Need-redirect-requires
-redirect-requires c κs = search needs
-
-equal-requires : tie.Need-equal-requires
-equal-requires c κs = search needs
-
 returns : tie.Need-returns
 returns c =
     let presented = c .before .before .before .before .args .presented .now in
     c .equal .ensures ∙ ap (λ (x : List ℕ). same x presented) (c .before .redirect .ensures)
 
 pub redirect-equals-spec : {M : Type 1} → statement M
-redirect-equals-spec = tie.close (tie.spec redirect-requires equal-requires returns)
+redirect-equals-spec = tie.close (tie.spec (λ c κs. search needs) (λ c κs. search needs) returns)

@@ -26,30 +26,15 @@ add-other-to c =
     let s = c .before in
     omega (arith, record-room (s .args .b .now) (s .args .other) (s .pre .1))
 
-sub-equal : tie.Need-sub-equal
-sub-equal c = search needs
-
-part-equal-start : tie.Need-part-equal-start
-part-equal-start c = search needs
-
 part-equal-end : tie.Need-part-equal-end
 part-equal-end c =
     let s = c .before in
     omega (arith, record-room (s .args .b .now) (s .args .at) (s .pre .0))
 
-sub-equal-2 : tie.Need-sub-equal-2
-sub-equal-2 c = search needs
-
-part-equal-start-2 : tie.Need-part-equal-start-2
-part-equal-start-2 c = search needs
-
 part-equal-end-2 : tie.Need-part-equal-end-2
 part-equal-end-2 c =
     let s = c .before .before in
     omega (arith, record-room (s .args .b .now) (s .args .other) (s .pre .1))
-
-equal-requires : tie.Need-equal-requires
-equal-requires c κs = search needs
 
 returns : tie.Need-returns
 returns c =
@@ -64,11 +49,11 @@ same-id-spec =
     add-to
     add-other-from
     add-other-to
-    sub-equal
-    part-equal-start
+    (λ c. search needs)
+    (λ c. search needs)
     part-equal-end
-    sub-equal-2
-    part-equal-start-2
+    (λ c. search needs)
+    (λ c. search needs)
     part-equal-end-2
-    equal-requires
+    (λ c κs. search needs)
     returns)

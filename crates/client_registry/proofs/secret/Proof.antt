@@ -17,18 +17,6 @@ start c = c .before .before .before
 confidential : (c : tie.Else1) → clientAt (clientsOf (start c .args .b .now)) (start c .args .e .number) .confidential ≡ true
 confidential c = sym (c .before .is-confidential .ensures) ∙ not-false (c .before .is-confidential .result) (c .if1 .left)
 
-is-confidential-requires : tie.Need-is-confidential-requires
-is-confidential-requires c κs = search needs
-
-sub-result : tie.Need-sub-result
-sub-result c = search needs
-
-part-result-start : tie.Need-part-result-start
-part-result-start c = search needs
-
-part-result-end : tie.Need-part-result-end
-part-result-end c = search needs
-
 returns : tie.Need-returns
 returns c =
     let s = c .before .before .before .before in
@@ -54,10 +42,10 @@ pub secret-spec : {M : Type 1} → statement M
 secret-spec =
     tie.close
     (tie.spec
-    is-confidential-requires
-    sub-result
-    part-result-start
-    part-result-end
+    (λ c κs. search needs)
+    (λ c. search needs)
+    (λ c. search needs)
+    (λ c. search needs)
     returns
     add-field-text
     field-text-requires

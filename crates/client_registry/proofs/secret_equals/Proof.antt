@@ -7,16 +7,10 @@ use Rattle.octets.specs.Lists.{same}
 use Rattle.client_registry.proofs.secret_equals.Statement.{statement}
 use Rattle.client_registry.proofs.secret_equals.Tie as tie
 
-secret-requires : tie.Need-secret-requires
-secret-requires c κs = search needs
-
-equal-requires : tie.Need-equal-requires
-equal-requires c κs = search needs
-
 returns : tie.Need-returns
 returns c =
     let presented = c .before .before .before .before .args .presented .now in
     c .equal .ensures ∙ ap (λ (x : List ℕ). same x presented) (c .before .secret .ensures)
 
 pub secret-equals-spec : {M : Type 1} → statement M
-secret-equals-spec = tie.close (tie.spec secret-requires equal-requires returns)
+secret-equals-spec = tie.close (tie.spec (λ c κs. search needs) (λ c κs. search needs) returns)

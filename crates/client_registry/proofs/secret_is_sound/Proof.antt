@@ -5,11 +5,8 @@ use Rattle.client_registry.proofs.Records.{tests-secret}
 use Rattle.client_registry.proofs.secret_is_sound.Statement.{statement}
 use Rattle.client_registry.proofs.secret_is_sound.Tie as tie
 
-field-is-sound-requires : tie.Need-field-is-sound-requires
-field-is-sound-requires c κs = search needs
-
 returns : tie.Need-returns
 returns c = c .field-is-sound .ensures ∙ tests-secret (c .before .before .args .r .now)
 
 pub secret-is-sound-spec : {M : Type 1} → statement M
-secret-is-sound-spec = tie.close (tie.spec field-is-sound-requires returns)
+secret-is-sound-spec = tie.close (tie.spec (λ c κs. search needs) returns)

@@ -10,9 +10,6 @@ use Rattle.error_words.proofs.write_word.Tie as tie
 at-row : (c : tie.After-number) → Row (c .number .result) (c .before .before .args .word)
 at-row c = rw (c .number .ensures) (row (c .before .before .args .word))
 
-number-requires : tie.Need-number-requires
-number-requires c κs = search needs
-
 sub-row : tie.Need-sub-row
 sub-row c = omega (arith, at-row c .least)
 
@@ -27,12 +24,6 @@ array-read-count c = omega (arith, at-row c .least, at-row c .most)
 
 add-end : tie.Need-add-end
 add-end c = omega (arith, at-row c .most, at-row c .count, at-row c .short)
-
-sub-copy-at : tie.Need-sub-copy-at
-sub-copy-at c = search needs
-
-part-copy-at-start : tie.Need-part-copy-at-start
-part-copy-at-start c = search needs
 
 part-copy-at-end : tie.Need-part-copy-at-end
 part-copy-at-end c = let r = at-row (c .before .before) in omega (arith, r .most, r .count, r .short)
@@ -49,9 +40,6 @@ add-result c =
     let r = at-row numbered in
     omega (arith, r .count, r .short, numbered .before .before .pre)
 
-same-length : tie.Need-same-length
-same-length c = search needs
-
 returns : tie.Need-returns
 returns c =
     let r = at-row (c .before .before .before .before .before .before) in
@@ -61,16 +49,16 @@ pub write-word-spec : {M : Type 1} → statement M
 write-word-spec =
     tie.close
     (tie.spec
-    number-requires
+    (λ c κs. search needs)
     sub-row
     mul-start
     mul-count
     array-read-count
     add-end
-    sub-copy-at
-    part-copy-at-start
+    (λ c. search needs)
+    (λ c. search needs)
     part-copy-at-end
     copy-at-requires
     add-result
-    same-length
+    (λ c. search needs)
     returns)

@@ -28,18 +28,6 @@ equals-at c =
     let e : c .index-of .result ≡ indexOf 61 (piece-at c) = c .index-of .ensures in
     (e, omega (arith, index-le 61 (piece-at c)))
 
-sub-piece : tie.Need-sub-piece
-sub-piece c = search needs
-
-part-piece-start : tie.Need-part-piece-start
-part-piece-start c = search needs
-
-part-piece-end : tie.Need-part-piece-end
-part-piece-end c = search needs
-
-index-of-requires : tie.Need-index-of-requires
-index-of-requires c κs = search needs
-
 add-if1 : tie.Need-add-if1
 add-if1 c = omega (arith, length-at c, equals-at c .1)
 
@@ -54,9 +42,6 @@ slice-aggregate-known c =
     let i = c .before .before in
     sym (length-take-le (i .index-of .result) (piece-at i) (equals-at i .1))
 
-known-requires : tie.Need-known-requires
-known-requires c κs = search needs
-
 returns-2 : tie.Need-returns-2
 returns-2 c =
     let i = c .before .before .before .before in
@@ -66,15 +51,6 @@ returns-2 c =
     (c .before .known .result)
     (c .before .known .ensures)
     (c .if2 .taken))
-
-add-entered : tie.Need-add-entered
-add-entered c = search needs
-
-add-entered-2 : tie.Need-add-entered-2
-add-entered-2 c = search needs
-
-entered-requires : tie.Need-entered-requires
-entered-requires c κs = search needs
 
 returns-3 : tie.Need-returns-3
 returns-3 c =
@@ -93,16 +69,16 @@ pub enter-piece-spec : {M : Type 1} → statement M
 enter-piece-spec =
     tie.close
     (tie.spec
-    sub-piece
-    part-piece-start
-    part-piece-end
-    index-of-requires
+    (λ c. search needs)
+    (λ c. search needs)
+    (λ c. search needs)
+    (λ c κs. search needs)
     add-if1
     returns
     slice-aggregate-known
-    known-requires
+    (λ c κs. search needs)
     returns-2
-    add-entered
-    add-entered-2
-    entered-requires
+    (λ c. search needs)
+    (λ c. search needs)
+    (λ c κs. search needs)
     returns-3)

@@ -38,17 +38,8 @@ told c =
     let e : Piece (c .p .given .0 .0) (c .p .given .0 .1 .0) ≡ stepOf names at = sym (c .p .given .1) ∙ c .before .before .next .ensures in
     told-piece names at (c .p .given .0 .0) (c .p .given .0 .1 .0) e
 
-new-requires : tie.Need-new-requires Inv-loop μ-loop
-new-requires c κs = search needs
-
 loop-holds : tie.Need-loop-holds Inv-loop μ-loop
 loop-holds c = rw (c .new .ensures, leb·zero) (omega arith, omega arith, omega arith)
-
-next-requires : tie.Need-next-requires Inv-loop μ-loop
-next-requires c κs = search needs
-
-enum-told : tie.Need-enum-told Inv-loop μ-loop
-enum-told c = search needs
 
 add-result : tie.Need-add-result Inv-loop μ-loop
 add-result c = omega arith
@@ -60,9 +51,6 @@ returns c =
     let e : End ≡ stepOf (a .names .now) (l .c .at) = sym (c .enum-told .given .1) ∙ c .before .before .next .ensures in
     omega (arith, rank-end (decode (a .name .now)) (a .names .now) (l .c .at) (told-end (a .names .now) (l .c .at) e))
 
-enum-known-p : tie.Need-enum-known-p Inv-loop μ-loop
-enum-known-p c = search needs
-
 sub-value-equals : tie.Need-sub-value-equals Inv-loop μ-loop
 sub-value-equals c = told (c .before) .forward
 
@@ -71,9 +59,6 @@ part-value-equals-start c = told (c .before) .forward
 
 part-value-equals-end : tie.Need-part-value-equals-end Inv-loop μ-loop
 part-value-equals-end c = told (c .before) .within
-
-value-equals-requires : tie.Need-value-equals-requires Inv-loop μ-loop
-value-equals-requires c κs = search needs
 
 returns-2 : tie.Need-returns-2 Inv-loop μ-loop
 returns-2 c =
@@ -103,17 +88,17 @@ known-spec =
     (tie.spec
     Inv-loop
     μ-loop
-    new-requires
+    (λ c κs. search needs)
     loop-holds
-    next-requires
-    enum-told
+    (λ c κs. search needs)
+    (λ c. search needs)
     add-result
     returns
-    enum-known-p
+    (λ c. search needs)
     sub-value-equals
     part-value-equals-start
     part-value-equals-end
-    value-equals-requires
+    (λ c κs. search needs)
     returns-2
     add-k
     loop-less

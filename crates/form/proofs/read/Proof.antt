@@ -52,27 +52,15 @@ told c =
     let e : Piece (c .p .given .0 .0) (c .p .given .0 .1 .0) ≡ stepOf s at = sym (c .p .given .1) ∙ c .before .before .next .ensures in
     told-piece s at (c .p .given .0 .0) (c .p .given .0 .1 .0) e
 
-well-formed-requires : tie.Need-well-formed-requires Inv-loop μ-loop
-well-formed-requires c κs = search needs
-
 returns : tie.Need-returns Inv-loop μ-loop
 unfolding allUnseen
 returns c =
     let a = c .before .before .before .before .args in
     says-of (a .names .now) (a .s .now) _ (sym (read-malformed (a .names .now) (a .s .now) (malformed c)))
 
-new-requires : tie.Need-new-requires Inv-loop μ-loop
-new-requires c κs = search needs
-
 loop-holds : tie.Need-loop-holds Inv-loop μ-loop
 unfolding placesOf allUnseen
 loop-holds c = rw (c .new .ensures, leb·zero) (omega arith, refl)
-
-next-requires : tie.Need-next-requires Inv-loop μ-loop
-next-requires c κs = search needs
-
-enum-told : tie.Need-enum-told Inv-loop μ-loop
-enum-told c = search needs
 
 returns-2 : tie.Need-returns-2 Inv-loop μ-loop
 returns-2 c =
@@ -84,9 +72,6 @@ returns-2 c =
     sym (enter-end (pieces (a .names .now)) (l .places) (a .s .now) (l .c .at) (told-end (a .s .now) (l .c .at) e)) ∙ l .inv .1 in
     says-of (a .names .now) (a .s .now) _
     (rw (read-well-formed (a .names .now) (a .s .now) (well-formed past), done))
-
-enum-known-p : tie.Need-enum-known-p Inv-loop μ-loop
-enum-known-p c = search needs
 
 enter-piece-requires : tie.Need-enter-piece-requires Inv-loop μ-loop
 enter-piece-requires c κs = let t = told (c .before) in (t .forward, t .within)
@@ -109,14 +94,14 @@ read-spec =
     (tie.spec
     Inv-loop
     μ-loop
-    well-formed-requires
+    (λ c κs. search needs)
     returns
-    new-requires
+    (λ c κs. search needs)
     loop-holds
-    next-requires
-    enum-told
+    (λ c κs. search needs)
+    (λ c. search needs)
     returns-2
-    enum-known-p
+    (λ c. search needs)
     enter-piece-requires
     loop-less
     loop-again)

@@ -4,12 +4,9 @@ use Rattle.form.specs.Places.{seenAgain}
 use Rattle.form.proofs.seen_again.Statement.{statement}
 use Rattle.form.proofs.seen_again.Tie as tie
 
-one-more-requires : tie.Need-one-more-requires
-one-more-requires c κs = search needs
-
 returns : tie.Need-returns
 unfolding seenAgain
 returns c = rw (c .one-more .ensures)
 
 pub seen-again-spec : {M : Type 1} → statement M
-seen-again-spec = tie.close (tie.spec one-more-requires returns)
+seen-again-spec = tie.close (tie.spec (λ c κs. search needs) returns)

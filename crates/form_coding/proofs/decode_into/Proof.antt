@@ -24,20 +24,8 @@ width : (c : tie.After-symbol-at Inv-loop μ-loop)
     → (0 < c .symbol-at .result .width) × (c .before .before .loop .i + c .symbol-at .result .width ≤ length (c .before .before .before .before .before .args .v .now))
 width c = width-fits (c .before .before .before .before .before .args .v .now) (c .before .before .loop .i) (c .before .loop-test .taken) (c .symbol-at .ensures)
 
-loop-holds : tie.Need-loop-holds Inv-loop μ-loop
-loop-holds c = search needs
-
-symbol-at-requires : tie.Need-symbol-at-requires Inv-loop μ-loop
-symbol-at-requires c κs = search needs
-
-slice-write-out : tie.Need-slice-write-out Inv-loop μ-loop
-slice-write-out c = search needs
-
 add-i : tie.Need-add-i Inv-loop μ-loop
 add-i c = let w = width (c .before) in omega arith
-
-add-n : tie.Need-add-n Inv-loop μ-loop
-add-n c = search needs
 
 loop-less : tie.Need-loop-less Inv-loop μ-loop
 loop-less c = let w = width (c .before) in omega arith
@@ -51,9 +39,6 @@ loop-again c =
     let n = ap length step in
     (omega arith, omega arith, simp length-set (omega arith), omega arith, rw (add-one (l .n)) (rw step at (l .inv .4)))
 
-same-length : tie.Need-same-length Inv-loop μ-loop
-same-length c = search needs
-
 returns : tie.Need-returns Inv-loop μ-loop
 returns c =
     let e = decode-end (c .before .before .before .before .args .v .now) (c .before .loop .i) (c .loop-test .left) in
@@ -65,12 +50,12 @@ decode-into-spec =
     (tie.spec
     Inv-loop
     μ-loop
-    loop-holds
-    symbol-at-requires
-    slice-write-out
+    (λ c. search needs)
+    (λ c κs. search needs)
+    (λ c. search needs)
     add-i
-    add-n
+    (λ c. search needs)
     loop-less
     loop-again
-    same-length
+    (λ c. search needs)
     returns)

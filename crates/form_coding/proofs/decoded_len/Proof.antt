@@ -20,17 +20,8 @@ width : (c : tie.After-symbol-at Inv-loop μ-loop)
     → (0 < c .symbol-at .result .width) × (c .before .before .loop .i + c .symbol-at .result .width ≤ length (c .before .before .before .before .args .v .now))
 width c = width-fits (c .before .before .before .before .args .v .now) (c .before .before .loop .i) (c .before .loop-test .taken) (c .symbol-at .ensures)
 
-loop-holds : tie.Need-loop-holds Inv-loop μ-loop
-loop-holds c = search needs
-
-symbol-at-requires : tie.Need-symbol-at-requires Inv-loop μ-loop
-symbol-at-requires c κs = search needs
-
 add-i : tie.Need-add-i Inv-loop μ-loop
 add-i c = let w = width (c .before) in omega arith
-
-add-n : tie.Need-add-n Inv-loop μ-loop
-add-n c = search needs
 
 loop-less : tie.Need-loop-less Inv-loop μ-loop
 loop-less c = let w = width (c .before) in omega arith
@@ -51,10 +42,10 @@ decoded-len-spec =
     (tie.spec
     Inv-loop
     μ-loop
-    loop-holds
-    symbol-at-requires
+    (λ c. search needs)
+    (λ c κs. search needs)
     add-i
-    add-n
+    (λ c. search needs)
     loop-less
     loop-again
     returns)

@@ -6,14 +6,8 @@ use Rattle.encoding.specs.Hex.{hexValue}
 use Rattle.form_coding.proofs.digit_at.Statement.{statement}
 use Rattle.form_coding.proofs.digit_at.Tie as tie
 
-byte-or-zero-requires : tie.Need-byte-or-zero-requires
-byte-or-zero-requires c κs = search needs
-
-hex-value-requires : tie.Need-hex-value-requires
-hex-value-requires c κs = search needs
-
 returns : tie.Need-returns
 returns c = c .hex-value .ensures ∙ ap (hexValue true) (c .before .byte-or-zero .ensures)
 
 pub digit-at-spec : {M : Type 1} → statement M
-digit-at-spec = tie.close (tie.spec byte-or-zero-requires hex-value-requires returns)
+digit-at-spec = tie.close (tie.spec (λ c κs. search needs) (λ c κs. search needs) returns)

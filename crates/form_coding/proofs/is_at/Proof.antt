@@ -3,11 +3,8 @@ use borrow.Author.Needs.{needs}
 use Rattle.form_coding.proofs.is_at.Statement.{statement}
 use Rattle.form_coding.proofs.is_at.Tie as tie
 
-byte-or-zero-requires : tie.Need-byte-or-zero-requires
-byte-or-zero-requires c κs = search needs
-
 returns : tie.Need-returns
 returns c = rw (c .byte-or-zero .ensures)
 
 pub is-at-spec : {M : Type 1} → statement M
-is-at-spec = tie.close (tie.spec byte-or-zero-requires returns)
+is-at-spec = tie.close (tie.spec (λ c κs. search needs) returns)

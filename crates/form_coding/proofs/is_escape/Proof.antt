@@ -8,25 +8,10 @@ use Rattle.form_coding.proofs.Coding.{escape-other, escape-percent}
 use Rattle.form_coding.proofs.is_escape.Statement.{statement}
 use Rattle.form_coding.proofs.is_escape.Tie as tie
 
-shared-slice-read-if1 : tie.Need-shared-slice-read-if1
-shared-slice-read-if1 c = search needs
-
 returns : tie.Need-returns
 returns c =
     let a = c .before .before .before .args in
     escape-other (a .v .now) (a .i) (c .if1 .taken)
-
-add-digit-at : tie.Need-add-digit-at
-add-digit-at c = search needs
-
-digit-at-requires : tie.Need-digit-at-requires
-digit-at-requires c κs = search needs
-
-add-digit-at-2 : tie.Need-add-digit-at-2
-add-digit-at-2 c = search needs
-
-digit-at-requires-2 : tie.Need-digit-at-requires-2
-digit-at-requires-2 c κs = search needs
 
 returns-2 : tie.Need-returns-2
 returns-2 c =
@@ -38,10 +23,10 @@ pub is-escape-spec : {M : Type 1} → statement M
 is-escape-spec =
     tie.close
     (tie.spec
-    shared-slice-read-if1
+    (λ c. search needs)
     returns
-    add-digit-at
-    digit-at-requires
-    add-digit-at-2
-    digit-at-requires-2
+    (λ c. search needs)
+    (λ c κs. search needs)
+    (λ c. search needs)
+    (λ c κs. search needs)
     returns-2)

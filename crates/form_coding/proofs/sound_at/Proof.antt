@@ -5,16 +5,10 @@ use Rattle.form_coding.proofs.Coding.{sound-other, sound-percent}
 use Rattle.form_coding.proofs.sound_at.Statement.{statement}
 use Rattle.form_coding.proofs.sound_at.Tie as tie
 
-shared-slice-read-if1 : tie.Need-shared-slice-read-if1
-shared-slice-read-if1 c = search needs
-
 returns : tie.Need-returns
 returns c =
     let a = c .before .before .before .args in
     sound-other (a .v .now) (a .i) (c .if1 .taken)
-
-is-escape-requires : tie.Need-is-escape-requires
-is-escape-requires c κs = search needs
 
 returns-2 : tie.Need-returns-2
 returns-2 c =
@@ -22,4 +16,4 @@ returns-2 c =
     c .is-escape .ensures ∙ sound-percent (a .v .now) (a .i) (c .before .if1 .left)
 
 pub sound-at-spec : {M : Type 1} → statement M
-sound-at-spec = tie.close (tie.spec shared-slice-read-if1 returns is-escape-requires returns-2)
+sound-at-spec = tie.close (tie.spec (λ c. search needs) returns (λ c κs. search needs) returns-2)

@@ -23,21 +23,6 @@ digits c =
     let d = escape-digits (a .v .now) (a .i) (escape (c .before .before)) in
     (rw (c .before .digit-at .ensures) (d .0), rw (c .digit-at2 .ensures) (d .1))
 
-is-escape-requires : tie.Need-is-escape-requires
-is-escape-requires c κs = search needs
-
-add-digit-at : tie.Need-add-digit-at
-add-digit-at c = search needs
-
-digit-at-requires : tie.Need-digit-at-requires
-digit-at-requires c κs = search needs
-
-add-digit-at-2 : tie.Need-add-digit-at-2
-add-digit-at-2 c = search needs
-
-digit-at-requires-2 : tie.Need-digit-at-requires-2
-digit-at-requires-2 c κs = search needs
-
 mul-t8 : tie.Need-mul-t8
 mul-t8 c = let d = digits c in omega arith
 
@@ -48,9 +33,6 @@ returns : tie.Need-returns
 returns c =
     let a = c .before .before .before .before .before .args in
     rw (symbol-escape (a .v .now) (a .i) (escape (c .before .before)), c .before .digit-at .ensures, c .digit-at2 .ensures)
-
-shared-slice-read-c : tie.Need-shared-slice-read-c
-shared-slice-read-c c = search needs
 
 returns-2 : tie.Need-returns-2
 returns-2 c =
@@ -66,14 +48,14 @@ pub symbol-at-spec : {M : Type 1} → statement M
 symbol-at-spec =
     tie.close
     (tie.spec
-    is-escape-requires
-    add-digit-at
-    digit-at-requires
-    add-digit-at-2
-    digit-at-requires-2
+    (λ c κs. search needs)
+    (λ c. search needs)
+    (λ c κs. search needs)
+    (λ c. search needs)
+    (λ c κs. search needs)
     mul-t8
     add-t9
     returns
-    shared-slice-read-c
+    (λ c. search needs)
     returns-2
     returns-3)

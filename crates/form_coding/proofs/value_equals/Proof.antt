@@ -22,20 +22,8 @@ width : (c : tie.After-symbol-at Inv-loop μ-loop)
     → (0 < c .symbol-at .result .width) × (c .before .before .loop .i + c .symbol-at .result .width ≤ length (c .before .before .before .before .before .args .v .now))
 width c = width-fits (c .before .before .before .before .before .args .v .now) (c .before .before .loop .i) (c .before .loop-test .taken) (c .symbol-at .ensures)
 
-loop-holds : tie.Need-loop-holds Inv-loop μ-loop
-loop-holds c = search needs
-
-symbol-at-requires : tie.Need-symbol-at-requires Inv-loop μ-loop
-symbol-at-requires c κs = search needs
-
-is-at-requires : tie.Need-is-at-requires Inv-loop μ-loop
-is-at-requires c κs = search needs
-
 add-i : tie.Need-add-i Inv-loop μ-loop
 add-i c = let w = width (c .before .before) in omega arith
-
-add-k : tie.Need-add-k Inv-loop μ-loop
-add-k c = search needs
 
 loop-less : tie.Need-loop-less Inv-loop μ-loop
 loop-less c = let w = width (c .before .before) in omega arith
@@ -60,11 +48,11 @@ value-equals-spec =
     (tie.spec
     Inv-loop
     μ-loop
-    loop-holds
-    symbol-at-requires
-    is-at-requires
+    (λ c. search needs)
+    (λ c κs. search needs)
+    (λ c κs. search needs)
     add-i
-    add-k
+    (λ c. search needs)
     loop-less
     loop-again
     returns)

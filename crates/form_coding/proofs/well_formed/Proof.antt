@@ -16,18 +16,6 @@ Inv-loop v ok₀ i₀ i-end ok i = (i ≤ i-end) × (i-end ≡ length v) × ((ok
 abbrev μ-loop : tie.MeasureT-loop
 μ-loop v ok₀ i₀ i-end ok i = i-end - i
 
-loop-holds : tie.Need-loop-holds Inv-loop μ-loop
-loop-holds c = search needs
-
-sound-at-requires : tie.Need-sound-at-requires Inv-loop μ-loop
-sound-at-requires c κs = search needs
-
-add-i : tie.Need-add-i Inv-loop μ-loop
-add-i c = search needs
-
-loop-less : tie.Need-loop-less Inv-loop μ-loop
-loop-less c = search needs
-
 loop-again : tie.Need-loop-again Inv-loop μ-loop
 loop-again c =
     let v = c .before .before .before .before .args .v .now in
@@ -42,4 +30,4 @@ returns c =
 pub well-formed-spec : {M : Type 1} → statement M
 well-formed-spec =
     tie.close
-    (tie.spec Inv-loop μ-loop loop-holds sound-at-requires add-i loop-less loop-again returns)
+    (tie.spec Inv-loop μ-loop (λ c. search needs) (λ c κs. search needs) (λ c. search needs) (λ c. search needs) loop-again returns)

@@ -19,21 +19,6 @@ Inv-loop out₀ at v w₀ i₀ out w i =
 abbrev μ-loop : tie.MeasureT-loop
 μ-loop out₀ at v w₀ i₀ out w i = length v - i
 
-loop-holds : tie.Need-loop-holds Inv-loop μ-loop
-loop-holds c = search needs
-
-shared-slice-read-put-byte : tie.Need-shared-slice-read-put-byte Inv-loop μ-loop
-shared-slice-read-put-byte c = search needs
-
-put-byte-requires : tie.Need-put-byte-requires Inv-loop μ-loop
-put-byte-requires c κs = search needs
-
-add-i : tie.Need-add-i Inv-loop μ-loop
-add-i c = search needs
-
-loop-less : tie.Need-loop-less Inv-loop μ-loop
-loop-less c = search needs
-
 loop-again : tie.Need-loop-again Inv-loop μ-loop
 loop-again c =
     let v = c .before .before .before .before .before .before .before .before .before .args .v .now in
@@ -51,9 +36,6 @@ loop-again c =
       rw (p .0, p .1) (sets-append (l .out) (l .w) (encodeByte b) (encode (drop (l .i + 1) v)) ∙ rw (← step) (l .inv .4)),
     )
 
-same-length : tie.Need-same-length Inv-loop μ-loop
-same-length c = search needs
-
 returns : tie.Need-returns Inv-loop μ-loop
 returns c =
     let e = encode-end (c .before .before .before .before .args .v .now) (c .before .loop .i) (c .loop-test .left) in
@@ -65,11 +47,11 @@ write-value-spec =
     (tie.spec
     Inv-loop
     μ-loop
-    loop-holds
-    shared-slice-read-put-byte
-    put-byte-requires
-    add-i
-    loop-less
+    (λ c. search needs)
+    (λ c. search needs)
+    (λ c κs. search needs)
+    (λ c. search needs)
+    (λ c. search needs)
     loop-again
-    same-length
+    (λ c. search needs)
     returns)

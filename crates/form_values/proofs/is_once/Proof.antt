@@ -5,27 +5,6 @@ use Rattle.protocol.specs.Requests.{isOnce}
 use Rattle.form_values.proofs.is_once.Statement.{statement}
 use Rattle.form_values.proofs.is_once.Tie as tie
 
-enum-told : tie.Need-enum-told
-enum-told c = search needs
-
-enum-told-2 : tie.Need-enum-told-2
-enum-told-2 c = search needs
-
-sub-value-equals : tie.Need-sub-value-equals
-sub-value-equals c = search needs
-
-part-value-equals-start : tie.Need-part-value-equals-start
-part-value-equals-start c = search needs
-
-part-value-equals-end : tie.Need-part-value-equals-end
-part-value-equals-end c = search needs
-
-value-equals-requires : tie.Need-value-equals-requires
-value-equals-requires c κs = search needs
-
-enum-told-3 : tie.Need-enum-told-3
-enum-told-3 c = search needs
-
 returns : tie.Need-returns
 unfolding isOnce viewAs
 returns c = rw (c .enum-told .given .1)
@@ -42,13 +21,13 @@ pub is-once-spec : {M : Type 1} → statement M
 is-once-spec =
     tie.close
     (tie.spec
-    enum-told
-    enum-told-2
-    sub-value-equals
-    part-value-equals-start
-    part-value-equals-end
-    value-equals-requires
-    enum-told-3
+    (λ c. search needs)
+    (λ c. search needs)
+    (λ c. search needs)
+    (λ c. search needs)
+    (λ c. search needs)
+    (λ c κs. search needs)
+    (λ c. search needs)
     returns
     returns-2
     returns-3)

@@ -55,18 +55,6 @@ taken c = c .clashes .ensures ∙ ap (λ (h : List ℕ). isTaken h (storeOf (sta
 
 -- ---- the needs
 
-vacant-requires : tie.Need-vacant-requires
-vacant-requires c κs = search needs
-
-enum-known-i : tie.Need-enum-known-i
-enum-known-i c = search needs
-
-enum-told : tie.Need-enum-told
-enum-told c = search needs
-
-same-length : tie.Need-same-length
-same-length c = search needs
-
 returns : tie.Need-returns
 returns c =
     let looked = c .before .before in
@@ -75,18 +63,6 @@ returns c =
     refuses (a .t) (storeOf s) (randomOf s) (requestOf s) (Redirect TemporarilyUnavailable)
     (code-full (a .t) (storeOf s .slots) (randomOf s) (a .client) (a .farm) (a .scope) (a .bound) (sym (looked .vacant .ensures) ∙ c .enum-told .given .1))
 
-handle-at-requires : tie.Need-handle-at-requires
-handle-at-requires c κs = search needs
-
-slice-aggregate-clashes : tie.Need-slice-aggregate-clashes
-slice-aggregate-clashes c = search needs
-
-clashes-requires : tie.Need-clashes-requires
-clashes-requires c κs = search needs
-
-same-length-2 : tie.Need-same-length-2
-same-length-2 c = search needs
-
 returns-2 : tie.Need-returns-2
 returns-2 c =
     let at = roomOf (c .before) in
@@ -94,9 +70,6 @@ returns-2 c =
     let a = s .args in
     refuses (a .t) (storeOf s) (randomOf s) (requestOf s) (Redirect ServerError)
     (code-clash (a .t) (storeOf s .slots) (randomOf s) (a .client) (a .farm) (a .scope) (a .bound) (place at) (room at) (sym (taken (c .before)) ∙ c .if1 .taken))
-
-code-kind-requires : tie.Need-code-kind-requires
-code-kind-requires c κs = search needs
 
 new-slot-requires : tie.Need-new-slot-requires
 new-slot-requires c κs =
@@ -108,9 +81,6 @@ put-requires c κs =
     let at = roomOf (c .before .before .before .before) in
     let s = startOf at in
     (s .pre .0, found-below (isVacant (s .args .t)) (s .args .store .now) (place at) (room at))
-
-same-length-3 : tie.Need-same-length-3
-same-length-3 c = search needs
 
 returns-3 : tie.Need-returns-3
 returns-3 c =
@@ -135,18 +105,18 @@ pub grant-code-spec : {M : Type 1} → statement M
 grant-code-spec =
     tie.close
     (tie.spec
-    vacant-requires
-    enum-known-i
-    enum-told
-    same-length
+    (λ c κs. search needs)
+    (λ c. search needs)
+    (λ c. search needs)
+    (λ c. search needs)
     returns
-    handle-at-requires
-    slice-aggregate-clashes
-    clashes-requires
-    same-length-2
+    (λ c κs. search needs)
+    (λ c. search needs)
+    (λ c κs. search needs)
+    (λ c. search needs)
     returns-2
-    code-kind-requires
+    (λ c κs. search needs)
     new-slot-requires
     put-requires
-    same-length-3
+    (λ c. search needs)
     returns-3)

@@ -140,21 +140,6 @@ grants c =
 
 -- ---- the needs
 
-find-requires : tie.Need-find-requires
-find-requires c κs = search needs
-
-enum-known-i : tie.Need-enum-known-i
-enum-known-i c = search needs
-
-enum-told : tie.Need-enum-told
-enum-told c = search needs
-
-refused-requires : tie.Need-refused-requires
-refused-requires c κs = search needs
-
-same-length : tie.Need-same-length
-same-length c = search needs
-
 returns : tie.Need-returns
 returns c = refusal (c .before .before .before .before .before .before .before) (c .refused .result) (Token InvalidGrant) (c .refused .ensures) (unfound (c .before))
 
@@ -163,53 +148,11 @@ is-good-code-requires c κs =
     let at = c .before .before in
     (startOf at .pre .0, below at)
 
-refused-requires-2 : tie.Need-refused-requires-2
-refused-requires-2 c κs = search needs
-
-same-length-2 : tie.Need-same-length-2
-same-length-2 c = search needs
-
 returns-2 : tie.Need-returns-2
 returns-2 c = refusal (startOf (c .before .before .before .before .before)) (c .refused2 .result) (Token InvalidGrant) (c .refused2 .ensures) (bad (c .before))
 
-vacant-requires : tie.Need-vacant-requires
-vacant-requires c κs = search needs
-
-enum-told-2 : tie.Need-enum-told-2
-enum-told-2 c = search needs
-
-enum-told-3 : tie.Need-enum-told-3
-enum-told-3 c = search needs
-
-refused-requires-3 : tie.Need-refused-requires-3
-refused-requires-3 c κs = search needs
-
-same-length-3 : tie.Need-same-length-3
-same-length-3 c = search needs
-
 returns-3 : tie.Need-returns-3
 returns-3 c = refusal (startOf (codeOf (c .before .before .before .before .before))) (c .refused3 .result) (Failed NoRoom) (c .refused3 .ensures) (full (c .before))
-
-handle-at-requires : tie.Need-handle-at-requires
-handle-at-requires c κs = search needs
-
-handle-at-requires-2 : tie.Need-handle-at-requires-2
-handle-at-requires-2 c κs = search needs
-
-slice-aggregate-any-clash : tie.Need-slice-aggregate-any-clash
-slice-aggregate-any-clash c = search needs
-
-slice-aggregate-any-clash-2 : tie.Need-slice-aggregate-any-clash-2
-slice-aggregate-any-clash-2 c = search needs
-
-any-clash-requires : tie.Need-any-clash-requires
-any-clash-requires c κs = search needs
-
-refused-requires-4 : tie.Need-refused-requires-4
-refused-requires-4 c κs = search needs
-
-same-length-4 : tie.Need-same-length-4
-same-length-4 c = search needs
 
 returns-4 : tie.Need-returns-4
 returns-4 c = refusal (callOf (c .before .before)) (c .refused4 .result) (Failed Clash) (c .refused4 .ensures) (clashes (c .before))
@@ -218,9 +161,6 @@ spend-code-requires : tie.Need-spend-code-requires
 spend-code-requires c κs =
     let at = codeOf (goodOf (roomOf (c .before .before))) in
     (startOf at .pre .0, below at, startOf at .pre .1)
-
-same-length-5 : tie.Need-same-length-5
-same-length-5 c = search needs
 
 returns-5 : tie.Need-returns-5
 returns-5 c =
@@ -241,30 +181,30 @@ pub grant-exchange-spec : {M : Type 1} → statement M
 grant-exchange-spec =
     tie.close
     (tie.spec
-    find-requires
-    enum-known-i
-    enum-told
-    refused-requires
-    same-length
+    (λ c κs. search needs)
+    (λ c. search needs)
+    (λ c. search needs)
+    (λ c κs. search needs)
+    (λ c. search needs)
     returns
     is-good-code-requires
-    refused-requires-2
-    same-length-2
+    (λ c κs. search needs)
+    (λ c. search needs)
     returns-2
-    vacant-requires
-    enum-told-2
-    enum-told-3
-    refused-requires-3
-    same-length-3
+    (λ c κs. search needs)
+    (λ c. search needs)
+    (λ c. search needs)
+    (λ c κs. search needs)
+    (λ c. search needs)
     returns-3
-    handle-at-requires
-    handle-at-requires-2
-    slice-aggregate-any-clash
-    slice-aggregate-any-clash-2
-    any-clash-requires
-    refused-requires-4
-    same-length-4
+    (λ c κs. search needs)
+    (λ c κs. search needs)
+    (λ c. search needs)
+    (λ c. search needs)
+    (λ c κs. search needs)
+    (λ c κs. search needs)
+    (λ c. search needs)
     returns-4
     spend-code-requires
-    same-length-5
+    (λ c. search needs)
     returns-5)

@@ -166,21 +166,6 @@ grant c =
 
 -- ---- the needs
 
-find-requires : tie.Need-find-requires
-find-requires c κs = search needs
-
-enum-known-i : tie.Need-enum-known-i
-enum-known-i c = search needs
-
-enum-told : tie.Need-enum-told
-enum-told c = search needs
-
-refused-requires : tie.Need-refused-requires
-refused-requires c κs = search needs
-
-same-length : tie.Need-same-length
-same-length c = search needs
-
 returns : tie.Need-returns
 returns c = refusal (c .before .before .before .before .before .before .before) (c .refused .result) (Token InvalidGrant) (c .refused .ensures) (unfound (c .before))
 
@@ -188,12 +173,6 @@ is-good-refresh-requires : tie.Need-is-good-refresh-requires
 is-good-refresh-requires c κs =
     let at = c .before .before in
     (startOf at .pre .0, below at)
-
-refused-requires-2 : tie.Need-refused-requires-2
-refused-requires-2 c κs = search needs
-
-same-length-2 : tie.Need-same-length-2
-same-length-2 c = search needs
 
 returns-2 : tie.Need-returns-2
 returns-2 c = refusal (startOf (c .before .before .before .before .before)) (c .refused2 .result) (Token InvalidGrant) (c .refused2 .ensures) (bad (c .before))
@@ -203,56 +182,14 @@ scope-of-requires c κs =
     let at = tokenOf (c .before) in
     (startOf at .pre .0, below at)
 
-scope-fits-requires : tie.Need-scope-fits-requires
-scope-fits-requires c κs = search needs
-
-refused-requires-3 : tie.Need-refused-requires-3
-refused-requires-3 c κs = search needs
-
-same-length-3 : tie.Need-same-length-3
-same-length-3 c = search needs
-
 returns-3 : tie.Need-returns-3
 returns-3 c = refusal (startOf (tokenOf (goodOf (c .before .before)))) (c .refused3 .result) (Token InvalidScope) (c .refused3 .ensures) (beyond (c .before))
-
-vacant-requires : tie.Need-vacant-requires
-vacant-requires c κs = search needs
-
-enum-known-j : tie.Need-enum-known-j
-enum-known-j c = search needs
-
-enum-told-2 : tie.Need-enum-told-2
-enum-told-2 c = search needs
-
-refused-requires-4 : tie.Need-refused-requires-4
-refused-requires-4 c κs = search needs
-
-same-length-4 : tie.Need-same-length-4
-same-length-4 c = search needs
 
 returns-4 : tie.Need-returns-4
 returns-4 c = refusal (startOf (tokenOf (goodOf (c .before .before .before .before .before .before)))) (c .refused4 .result) (Failed NoRoom) (c .refused4 .ensures) (full (c .before))
 
-handle-at-requires : tie.Need-handle-at-requires
-handle-at-requires c κs = search needs
-
-slice-aggregate-clashes : tie.Need-slice-aggregate-clashes
-slice-aggregate-clashes c = search needs
-
-clashes-requires : tie.Need-clashes-requires
-clashes-requires c κs = search needs
-
-refused-requires-5 : tie.Need-refused-requires-5
-refused-requires-5 c κs = search needs
-
-same-length-5 : tie.Need-same-length-5
-same-length-5 c = search needs
-
 returns-5 : tie.Need-returns-5
 returns-5 c = refusal (callOf (c .before .before)) (c .refused5 .result) (Failed Clash) (c .refused5 .ensures) (clash (c .before))
-
-scope-given-requires : tie.Need-scope-given-requires
-scope-given-requires c κs = search needs
 
 token-on-requires : tie.Need-token-on-requires
 token-on-requires c κs =
@@ -264,9 +201,6 @@ put-requires c κs =
     let vacancy = roomOf (c .before .before .before .before .before) in
     let s = startOf (tokenOf (goodOf (fitOf vacancy .before))) in
     (s .pre .0, found-below (isVacant (s .args .t)) (s .args .store .now) (room-place vacancy) (room vacancy))
-
-same-length-6 : tie.Need-same-length-6
-same-length-6 c = search needs
 
 returns-6 : tie.Need-returns-6
 returns-6 c =
@@ -296,35 +230,35 @@ pub grant-refresh-spec : {M : Type 1} → statement M
 grant-refresh-spec =
     tie.close
     (tie.spec
-    find-requires
-    enum-known-i
-    enum-told
-    refused-requires
-    same-length
+    (λ c κs. search needs)
+    (λ c. search needs)
+    (λ c. search needs)
+    (λ c κs. search needs)
+    (λ c. search needs)
     returns
     is-good-refresh-requires
-    refused-requires-2
-    same-length-2
+    (λ c κs. search needs)
+    (λ c. search needs)
     returns-2
     scope-of-requires
-    scope-fits-requires
-    refused-requires-3
-    same-length-3
+    (λ c κs. search needs)
+    (λ c κs. search needs)
+    (λ c. search needs)
     returns-3
-    vacant-requires
-    enum-known-j
-    enum-told-2
-    refused-requires-4
-    same-length-4
+    (λ c κs. search needs)
+    (λ c. search needs)
+    (λ c. search needs)
+    (λ c κs. search needs)
+    (λ c. search needs)
     returns-4
-    handle-at-requires
-    slice-aggregate-clashes
-    clashes-requires
-    refused-requires-5
-    same-length-5
+    (λ c κs. search needs)
+    (λ c. search needs)
+    (λ c κs. search needs)
+    (λ c κs. search needs)
+    (λ c. search needs)
     returns-5
-    scope-given-requires
+    (λ c κs. search needs)
     token-on-requires
     put-requires
-    same-length-6
+    (λ c. search needs)
     returns-6)

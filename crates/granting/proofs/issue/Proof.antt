@@ -20,18 +20,6 @@ place c = c .i .given .0 .0
 found : (c : tie.After-i) → (let a = startOf c .args in indexFrom (isVacant (a .t)) 0 (decode (a .store .now) .slots)) ≡ At (place c)
 found c = sym (c .before .before .vacant .ensures) ∙ c .i .given .1
 
-vacant-requires : tie.Need-vacant-requires
-vacant-requires c κs = search needs
-
-enum-known-i : tie.Need-enum-known-i
-enum-known-i c = search needs
-
-enum-told : tie.Need-enum-told
-enum-told c = search needs
-
-same-length : tie.Need-same-length
-same-length c = search needs
-
 returns : tie.Need-returns
 returns c =
     let looked = c .before .before in
@@ -44,9 +32,6 @@ put-requires c κs =
     let s = startOf at in
     (s .pre, found-below (isVacant (s .args .t)) (s .args .store .now) (place at) (found at))
 
-same-length-2 : tie.Need-same-length-2
-same-length-2 c = search needs
-
 returns-2 : tie.Need-returns-2
 returns-2 c =
     let written = c .before .before in
@@ -58,11 +43,11 @@ pub issue-spec : {M : Type 1} → statement M
 issue-spec =
     tie.close
     (tie.spec
-    vacant-requires
-    enum-known-i
-    enum-told
-    same-length
+    (λ c κs. search needs)
+    (λ c. search needs)
+    (λ c. search needs)
+    (λ c. search needs)
     returns
     put-requires
-    same-length-2
+    (λ c. search needs)
     returns-2)

@@ -5,9 +5,6 @@ use Rattle.granting.proofs.Issuing.{lifetime-bound}
 use Rattle.granting.proofs.new_slot.Statement.{statement}
 use Rattle.granting.proofs.new_slot.Tie as tie
 
-lifetime-requires : tie.Need-lifetime-requires
-lifetime-requires c κs = search needs
-
 add-expiry : tie.Need-add-expiry
 add-expiry c = omega (arith, lifetime-bound (c .before .args .kind), c .lifetime .ensures)
 
@@ -15,4 +12,4 @@ returns : tie.Need-returns
 returns c = rw (c .lifetime .ensures)
 
 pub new-slot-spec : {M : Type 1} → statement M
-new-slot-spec = tie.close (tie.spec lifetime-requires add-expiry returns)
+new-slot-spec = tie.close (tie.spec (λ c κs. search needs) add-expiry returns)

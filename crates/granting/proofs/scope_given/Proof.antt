@@ -4,15 +4,6 @@ use Rattle.protocol.specs.Requests.{scopeGiven}
 use Rattle.granting.proofs.scope_given.Statement.{statement}
 use Rattle.granting.proofs.scope_given.Tie as tie
 
-enum-told : tie.Need-enum-told
-enum-told c = search needs
-
-enum-known-asked : tie.Need-enum-known-asked
-enum-known-asked c = search needs
-
-enum-told-2 : tie.Need-enum-told-2
-enum-told-2 c = search needs
-
 returns : tie.Need-returns
 unfolding scopeGiven
 returns c = rw (c .enum-told .given .1)
@@ -27,4 +18,4 @@ returns-3 c = rw (c .enum-told2 .given .1)
 
 pub scope-given-spec : {M : Type 1} → statement M
 scope-given-spec =
-    tie.close (tie.spec enum-told enum-known-asked enum-told-2 returns returns-2 returns-3)
+    tie.close (tie.spec (λ c. search needs) (λ c. search needs) (λ c. search needs) returns returns-2 returns-3)

@@ -5,27 +5,6 @@ use Rattle.granting.proofs.Issuing.{spent}
 use Rattle.granting.proofs.spend_code.Statement.{statement}
 use Rattle.granting.proofs.spend_code.Tie as tie
 
-scope-of-requires : tie.Need-scope-of-requires
-scope-of-requires c κs = search needs
-
-token-on-requires : tie.Need-token-on-requires
-token-on-requires c κs = search needs
-
-token-on-requires-2 : tie.Need-token-on-requires-2
-token-on-requires-2 c κs = search needs
-
-clear-requires : tie.Need-clear-requires
-clear-requires c κs = search needs
-
-issue-requires : tie.Need-issue-requires
-issue-requires c κs = search needs
-
-issue-requires-2 : tie.Need-issue-requires-2
-issue-requires-2 c κs = search needs
-
-same-length : tie.Need-same-length
-same-length c = search needs
-
 returns : tie.Need-returns
 returns c =
     let second = c .before .before in
@@ -50,11 +29,11 @@ pub spend-code-spec : {M : Type 1} → statement M
 spend-code-spec =
     tie.close
     (tie.spec
-    scope-of-requires
-    token-on-requires
-    token-on-requires-2
-    clear-requires
-    issue-requires
-    issue-requires-2
-    same-length
+    (λ c κs. search needs)
+    (λ c κs. search needs)
+    (λ c κs. search needs)
+    (λ c κs. search needs)
+    (λ c κs. search needs)
+    (λ c κs. search needs)
+    (λ c. search needs)
     returns)

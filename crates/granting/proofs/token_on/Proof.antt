@@ -4,17 +4,8 @@ use mathlib.Core.Path.{_∙_}
 use Rattle.granting.proofs.token_on.Statement.{statement}
 use Rattle.granting.proofs.token_on.Tie as tie
 
-client-of-requires : tie.Need-client-of-requires
-client-of-requires c κs = search needs
-
-farm-of-requires : tie.Need-farm-of-requires
-farm-of-requires c κs = search needs
-
-new-slot-requires : tie.Need-new-slot-requires
-new-slot-requires c κs = search needs
-
 returns : tie.Need-returns
 returns c = c .new-slot .ensures ∙ rw (c .before .before .client-of .ensures, c .before .farm-of .ensures)
 
 pub token-on-spec : {M : Type 1} → statement M
-token-on-spec = tie.close (tie.spec client-of-requires farm-of-requires new-slot-requires returns)
+token-on-spec = tie.close (tie.spec (λ c κs. search needs) (λ c κs. search needs) (λ c κs. search needs) returns)

@@ -15,20 +15,11 @@ decoded c =
     let start = c .before .before .before .before in
     front-value (start .args .s .now) (start .args .p) (start .pre .2) _ _ (c .value-into .ensures .0) (c .value-into .ensures .1)
 
-slice-aggregate-value-into : tie.Need-slice-aggregate-value-into
-slice-aggregate-value-into c = search needs
-
-value-into-requires : tie.Need-value-into-requires
-value-into-requires c κs = search needs
-
 array-share-prefix-buffer : tie.Need-array-share-prefix-buffer
 array-share-prefix-buffer c = decoded (c .before) .fits
 
 slice-aggregate-find : tie.Need-slice-aggregate-find
 slice-aggregate-find c = decoded (c .before .before) .count
-
-find-requires : tie.Need-find-requires
-find-requires c κs = search needs
 
 returns : tie.Need-returns
 returns c =
@@ -39,9 +30,9 @@ pub client-named-spec : {M : Type 1} → statement M
 client-named-spec =
     tie.close
     (tie.spec
-    slice-aggregate-value-into
-    value-into-requires
+    (λ c. search needs)
+    (λ c κs. search needs)
     array-share-prefix-buffer
     slice-aggregate-find
-    find-requires
+    (λ c κs. search needs)
     returns)

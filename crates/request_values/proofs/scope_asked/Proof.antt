@@ -29,38 +29,17 @@ asked c v e =
     ∙ asked-once (viewOf (a .s .now) (a .p)) (sym (once .before .before .before .is-missing .ensures) ∙ once .before .before .if1 .left)
     (sym (once .before .is-repeated .ensures) ∙ once .if2 .left)
 
-is-missing-requires : tie.Need-is-missing-requires
-is-missing-requires c κs = search needs
-
 returns : tie.Need-returns
 returns c = asked-missing _ (sym (c .before .is-missing .ensures) ∙ c .if1 .taken)
 
-is-repeated-requires : tie.Need-is-repeated-requires
-is-repeated-requires c κs = search needs
-
 returns-2 : tie.Need-returns-2
 returns-2 c = asked-repeated _ (sym (c .before .is-repeated .ensures) ∙ c .if2 .taken)
-
-slice-aggregate-value-into : tie.Need-slice-aggregate-value-into
-slice-aggregate-value-into c = search needs
-
-value-into-requires : tie.Need-value-into-requires
-value-into-requires c κs = search needs
 
 array-share-prefix-buffer : tie.Need-array-share-prefix-buffer
 array-share-prefix-buffer c = decoded (c .before) .fits
 
 slice-aggregate-read : tie.Need-slice-aggregate-read
 slice-aggregate-read c = decoded (c .before .before) .count
-
-read-requires : tie.Need-read-requires
-read-requires c κs = search needs
-
-enum-known-set : tie.Need-enum-known-set
-enum-known-set c = search needs
-
-enum-told : tie.Need-enum-told
-enum-told c = search needs
 
 returns-3 : tie.Need-returns-3
 unfolding askedBy
@@ -74,16 +53,16 @@ pub scope-asked-spec : {M : Type 1} → statement M
 scope-asked-spec =
     tie.close
     (tie.spec
-    is-missing-requires
+    (λ c κs. search needs)
     returns
-    is-repeated-requires
+    (λ c κs. search needs)
     returns-2
-    slice-aggregate-value-into
-    value-into-requires
+    (λ c. search needs)
+    (λ c κs. search needs)
     array-share-prefix-buffer
     slice-aggregate-read
-    read-requires
-    enum-known-set
-    enum-told
+    (λ c κs. search needs)
+    (λ c. search needs)
+    (λ c. search needs)
     returns-3
     returns-4)

@@ -34,15 +34,6 @@ loop-holds : tie.Need-loop-holds Inv-loop μ-loop
 unfolding tableOk names same bitOf
 loop-holds c = (search needs, refl, tt)
 
-mul-start : tie.Need-mul-start Inv-loop μ-loop
-mul-start c = search needs
-
-mul-end : tie.Need-mul-end Inv-loop μ-loop
-mul-end c = search needs
-
-array-read-end : tie.Need-array-read-end Inv-loop μ-loop
-array-read-end c = search needs
-
 add-end : tie.Need-add-end Inv-loop μ-loop
 add-end c = omega (arith, cut _ _ (c .before .loop .inv .2) (c .before .loop .k) (c .loop-test .taken) .0)
 
@@ -55,15 +46,6 @@ part-equal-start c = omega arith
 part-equal-end : tie.Need-part-equal-end Inv-loop μ-loop
 part-equal-end c = omega (arith, cut _ _ (c .before .before .loop .inv .2) (c .before .before .loop .k) (c .before .loop-test .taken) .0)
 
-equal-requires : tie.Need-equal-requires Inv-loop μ-loop
-equal-requires c κs = search needs
-
-cast-result : tie.Need-cast-result Inv-loop μ-loop
-cast-result c = search needs
-
-shl-result : tie.Need-shl-result Inv-loop μ-loop
-shl-result c = search needs
-
 returns : tie.Need-returns Inv-loop μ-loop
 returns c =
     let turn = c .before .before .before .before in
@@ -71,12 +53,6 @@ returns c =
     let n = turn .before .before .before .args .name .now in
     let e : 1 * 2 ^ l .k % 256 ≡ 2 ^ l .k = shl-exact 1 (l .k) 8 (lit< tt) (omega arith) ∙ one-mul (2 ^ l .k) in
     e ∙ sym (bit-here n (l .k) (turn .loop-test .taken) (sym (compared (c .before)) ∙ c .if1 .taken)) ∙ l .inv .1
-
-add-k : tie.Need-add-k Inv-loop μ-loop
-add-k c = search needs
-
-loop-less : tie.Need-loop-less Inv-loop μ-loop
-loop-less c = search needs
 
 loop-again : tie.Need-loop-again Inv-loop μ-loop
 loop-again c =
@@ -101,18 +77,18 @@ name-bit-spec =
     Inv-loop
     μ-loop
     loop-holds
-    mul-start
-    mul-end
-    array-read-end
+    (λ c. search needs)
+    (λ c. search needs)
+    (λ c. search needs)
     add-end
     sub-equal
     part-equal-start
     part-equal-end
-    equal-requires
-    cast-result
-    shl-result
+    (λ c κs. search needs)
+    (λ c. search needs)
+    (λ c. search needs)
     returns
-    add-k
-    loop-less
+    (λ c. search needs)
+    (λ c. search needs)
     loop-again
     returns-2)

@@ -42,18 +42,6 @@ bit c = rw add-sub-cancel-left at (c .name-bit .ensures)
 loop-holds : tie.Need-loop-holds Inv-loop μ-loop
 loop-holds c = (search needs, read-start (c .before .args .v .now))
 
-sub-index-of : tie.Need-sub-index-of Inv-loop μ-loop
-sub-index-of c = search needs
-
-part-index-of-start : tie.Need-part-index-of-start Inv-loop μ-loop
-part-index-of-start c = search needs
-
-part-index-of-end : tie.Need-part-index-of-end Inv-loop μ-loop
-part-index-of-end c = search needs
-
-index-of-requires : tie.Need-index-of-requires Inv-loop μ-loop
-index-of-requires c κs = search needs
-
 add-end : tie.Need-add-end Inv-loop μ-loop
 add-end c = omega (arith, space c .1)
 
@@ -66,21 +54,12 @@ part-name-bit-start c = omega arith
 part-name-bit-end : tie.Need-part-name-bit-end Inv-loop μ-loop
 part-name-bit-end c = omega (arith, space c .1)
 
-name-bit-requires : tie.Need-name-bit-requires Inv-loop μ-loop
-name-bit-requires c κs = search needs
-
 returns : tie.Need-returns Inv-loop μ-loop
 returns c =
     let found = c .before .before .before in
     let v = found .before .before .before .before .before .args .v .now in
     let l = found .before .before .before .loop in
     sym (read-other (l .set) v (l .at) _ _ (omega arith) (space found .0) (bit (c .before)) (c .if1 .taken)) ∙ l .inv .1
-
-from-byte-requires : tie.Need-from-byte-requires Inv-loop μ-loop
-from-byte-requires c κs = search needs
-
-join-requires : tie.Need-join-requires Inv-loop μ-loop
-join-requires c κs = search needs
 
 add-at : tie.Need-add-at Inv-loop μ-loop
 add-at c = omega (arith, space (c .before .before .before .before .before) .1)
@@ -112,18 +91,18 @@ read-spec =
     Inv-loop
     μ-loop
     loop-holds
-    sub-index-of
-    part-index-of-start
-    part-index-of-end
-    index-of-requires
+    (λ c. search needs)
+    (λ c. search needs)
+    (λ c. search needs)
+    (λ c κs. search needs)
     add-end
     sub-name-bit
     part-name-bit-start
     part-name-bit-end
-    name-bit-requires
+    (λ c κs. search needs)
     returns
-    from-byte-requires
-    join-requires
+    (λ c κs. search needs)
+    (λ c κs. search needs)
     add-at
     loop-less
     loop-again

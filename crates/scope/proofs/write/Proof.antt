@@ -82,18 +82,6 @@ loop-holds c =
     let s = write-start (c .before .args .set .bits) in
     (search needs, tt, refl, rw s, rw s)
 
-has-requires : tie.Need-has-requires Inv-loop μ-loop
-has-requires c κs = search needs
-
-mul-start : tie.Need-mul-start Inv-loop μ-loop
-mul-start c = search needs
-
-mul-end : tie.Need-mul-end Inv-loop μ-loop
-mul-end c = search needs
-
-array-read-end : tie.Need-array-read-end Inv-loop μ-loop
-array-read-end c = search needs
-
 add-end : tie.Need-add-end Inv-loop μ-loop
 add-end c =
     let l = c .before .before .before .loop in
@@ -117,12 +105,6 @@ write-next-requires c κs =
     let l = turn .before .loop in
     let named = cut _ _ (l .inv .1) (l .k) (turn .loop-test .taken) .1 in
     rw (add-sub-cancel-left, named) (room (c .before .before .before))
-
-add-k : tie.Need-add-k Inv-loop μ-loop
-add-k c = search needs
-
-loop-less : tie.Need-loop-less Inv-loop μ-loop
-loop-less c = search needs
 
 loop-again : tie.Need-loop-again Inv-loop μ-loop
 loop-again c =
@@ -154,17 +136,17 @@ write-spec =
     Inv-loop
     μ-loop
     loop-holds
-    has-requires
-    mul-start
-    mul-end
-    array-read-end
+    (λ c κs. search needs)
+    (λ c. search needs)
+    (λ c. search needs)
+    (λ c. search needs)
     add-end
     sub-write-next
     part-write-next-start
     part-write-next-end
     write-next-requires
-    add-k
-    loop-less
+    (λ c. search needs)
+    (λ c. search needs)
     loop-again
     same-length
     returns)

@@ -18,29 +18,14 @@ next-room c = omega (arith, rw (c .if1 .left) at (c .before .before .before .pre
 copy-at-requires : tie.Need-copy-at-requires
 copy-at-requires c κs = first-room (c .before)
 
-add-result : tie.Need-add-result
-add-result c = search needs
-
-same-length : tie.Need-same-length
-same-length c = search needs
-
 returns : tie.Need-returns
 returns c = let t = c .before .before .before .before .if1 .taken in (rw t, rw t (c .before .before .copy-at .ensures))
 
 slice-write-out : tie.Need-slice-write-out
 slice-write-out c = omega (arith, next-room c)
 
-add-copy-at : tie.Need-add-copy-at
-add-copy-at c = search needs
-
 copy-at-requires-2 : tie.Need-copy-at-requires-2
 copy-at-requires-2 c κs = simp length-set (next-room (c .before))
-
-add-result-2 : tie.Need-add-result-2
-add-result-2 c = search needs
-
-add-result-3 : tie.Need-add-result-3
-add-result-3 c = search needs
 
 same-length-2 : tie.Need-same-length-2
 same-length-2 c = c .before .before .copy-at2 .kept .0 ∙ simp length-set
@@ -53,13 +38,13 @@ write-next-spec =
     tie.close
     (tie.spec
     copy-at-requires
-    add-result
-    same-length
+    (λ c. search needs)
+    (λ c. search needs)
     returns
     slice-write-out
-    add-copy-at
+    (λ c. search needs)
     copy-at-requires-2
-    add-result-2
-    add-result-3
+    (λ c. search needs)
+    (λ c. search needs)
     same-length-2
     returns-2)

@@ -21,34 +21,16 @@ passed c = sym (c .enum-told .given .1) ∙ c .before .before .admit .ensures
 size : (c : tie.After-enum-told) → length (c .before .before .before .before .before .before .before .args .store .now) ≡ storeSize
 size c = store-size (admitted _ _ _ _ (passed c))
 
-admit-requires : tie.Need-admit-requires
-admit-requires c κs = search needs
-
-enum-known-admitted : tie.Need-enum-known-admitted
-enum-known-admitted c = search needs
-
-same-length : tie.Need-same-length
-same-length c = search needs
-
 returns : tie.Need-returns
 returns c =
     let a = c .before .before .before .before .before .before .before .before .args in
     check-refused (a .token .now) (a .registry .now) (a .store .now) (a .clock) _ (sym (c .before .admitted .given .1) ∙ c .before .before .before .admit .ensures)
 
-enum-told : tie.Need-enum-told
-enum-told c = search needs
-
 begin-requires : tie.Need-begin-requires
 begin-requires c κs = size (c .before)
 
-read-handle-requires : tie.Need-read-handle-requires
-read-handle-requires c κs = search needs
-
 look-up-requires : tie.Need-look-up-requires
 look-up-requires c κs = c .before .before .before .before .begin .kept .0 ∙ size (c .before .before .before .before .before .before)
-
-same-length-2 : tie.Need-same-length-2
-same-length-2 c = search needs
 
 returns-2 : tie.Need-returns-2
 returns-2 c =
@@ -69,13 +51,13 @@ pub check-spec : {M : Type 1} → statement M
 check-spec =
     tie.close
     (tie.spec
-    admit-requires
-    enum-known-admitted
-    same-length
+    (λ c κs. search needs)
+    (λ c. search needs)
+    (λ c. search needs)
     returns
-    enum-told
+    (λ c. search needs)
     begin-requires
-    read-handle-requires
+    (λ c κs. search needs)
     look-up-requires
-    same-length-2
+    (λ c. search needs)
     returns-2)

@@ -6,18 +6,6 @@ use Rattle.token_check.proofs.Checking.{live-below}
 use Rattle.token_check.proofs.live_token.Statement.{statement}
 use Rattle.token_check.proofs.live_token.Tie as tie
 
-client-of-requires : tie.Need-client-of-requires
-client-of-requires c κs = search needs
-
-farm-of-requires : tie.Need-farm-of-requires
-farm-of-requires c κs = search needs
-
-scope-of-requires : tie.Need-scope-of-requires
-scope-of-requires c κs = search needs
-
-expiry-of-requires : tie.Need-expiry-of-requires
-expiry-of-requires c κs = search needs
-
 sub-t8 : tie.Need-sub-t8
 sub-t8 c =
     let a = c .before .before .before .before .before .args in
@@ -36,9 +24,9 @@ pub live-token-spec : {M : Type 1} → statement M
 live-token-spec =
     tie.close
     (tie.spec
-    client-of-requires
-    farm-of-requires
-    scope-of-requires
-    expiry-of-requires
+    (λ c κs. search needs)
+    (λ c κs. search needs)
+    (λ c κs. search needs)
+    (λ c κs. search needs)
     sub-t8
     returns)

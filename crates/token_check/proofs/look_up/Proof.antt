@@ -20,15 +20,6 @@ found c = sym (c .before .before .find .ensures) ∙ c .i .given .1
 below : (c : tie.After-i) → c .i .given .0 .0 < slotCount
 below c = found-below (accessKey (c .before .before .before .before .args .presented)) (c .before .before .before .before .args .store .now) (c .i .given .0 .0) (found c)
 
-find-requires : tie.Need-find-requires
-find-requires c κs = search needs
-
-enum-known-i : tie.Need-enum-known-i
-enum-known-i c = search needs
-
-enum-told : tie.Need-enum-told
-enum-told c = search needs
-
 returns : tie.Need-returns
 returns c =
     let a = c .before .before .before .before .args in
@@ -59,9 +50,9 @@ pub look-up-spec : {M : Type 1} → statement M
 look-up-spec =
     tie.close
     (tie.spec
-    find-requires
-    enum-known-i
-    enum-told
+    (λ c κs. search needs)
+    (λ c. search needs)
+    (λ c. search needs)
     returns
     is-live-requires
     returns-2

@@ -31,24 +31,6 @@ granted c = c .before .before .before .before
 abbrev asked : tie.After-grant → tie.After-read
 asked c = c .before .before
 
-read-requires : tie.Need-read-requires
-read-requires c κs = search needs
-
-grant-requires : tie.Need-grant-requires
-grant-requires c κs = search needs
-
-write-reply-requires : tie.Need-write-reply-requires
-write-reply-requires c κs = search needs
-
-challenge-requires : tie.Need-challenge-requires
-challenge-requires c κs = search needs
-
-same-length : tie.Need-same-length
-same-length c = search needs
-
-same-length-2 : tie.Need-same-length-2
-same-length-2 c = search needs
-
 returns : tie.Need-returns
 returns c =
     let w = written c in
@@ -69,10 +51,10 @@ pub serve-spec : {M : Type 1} → statement M
 serve-spec =
     tie.close
     (tie.spec
-    read-requires
-    grant-requires
-    write-reply-requires
-    challenge-requires
-    same-length
-    same-length-2
+    (λ c κs. search needs)
+    (λ c κs. search needs)
+    (λ c κs. search needs)
+    (λ c κs. search needs)
+    (λ c. search needs)
+    (λ c. search needs)
     returns)

@@ -45,27 +45,12 @@ known c = admitted _ _ _ _ (passed c)
 abbrev told : tie.After-begin → tie.After-enum-told
 told c = c .before .before
 
-mul-fits : tie.Need-mul-fits
-mul-fits c = search needs
-
-admit-requires : tie.Need-admit-requires
-admit-requires c κs = search needs
-
-enum-known-admitted : tie.Need-enum-known-admitted
-enum-known-admitted c = search needs
-
-same-length : tie.Need-same-length
-same-length c = search needs
-
 returns : tie.Need-returns
 returns c =
     let m = c .before .before .before in
     let a = start m .args in
     token-refused (a .header .now) (a .body .now) (a .registry .now) (a .store .now) (a .clock) (a .random .now) (a .output .now) _
     (sym (c .before .admitted .given .1) ∙ judged m)
-
-enum-told : tie.Need-enum-told
-enum-told c = search needs
 
 begin-requires : tie.Need-begin-requires
 begin-requires c κs = store-size (known (c .before))
@@ -77,12 +62,6 @@ serve-requires c κs =
     let a = start (asked (told begun)) .args in
     let sizes = fit-buffers (2 * handleSize) (a .random .now) (a .output .now) (k .buffers) in
     (k .registry-fit, begun .begin .kept .0 ∙ store-size k, omega (arith, begun .begin .ensures .0, time-early k), sizes .1, sizes .0)
-
-same-length-2 : tie.Need-same-length-2
-same-length-2 c = search needs
-
-same-length-3 : tie.Need-same-length-3
-same-length-3 c = search needs
 
 returns-2 : tie.Need-returns-2
 returns-2 c =
@@ -106,14 +85,14 @@ pub token-spec : {M : Type 1} → statement M
 token-spec =
     tie.close
     (tie.spec
-    mul-fits
-    admit-requires
-    enum-known-admitted
-    same-length
+    (λ c. search needs)
+    (λ c κs. search needs)
+    (λ c. search needs)
+    (λ c. search needs)
     returns
-    enum-told
+    (λ c. search needs)
     begin-requires
     serve-requires
-    same-length-2
-    same-length-3
+    (λ c. search needs)
+    (λ c. search needs)
     returns-2)

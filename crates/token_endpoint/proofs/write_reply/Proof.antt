@@ -4,30 +4,9 @@ use Rattle.token_endpoint.specs.Serving.{replyBy}
 use Rattle.token_endpoint.proofs.write_reply.Statement.{statement}
 use Rattle.token_endpoint.proofs.write_reply.Tie as tie
 
-enum-known-decision : tie.Need-enum-known-decision
-enum-known-decision c = search needs
-
-write-refusal-requires : tie.Need-write-refusal-requires
-write-refusal-requires c κs = search needs
-
-enum-told : tie.Need-enum-told
-enum-told c = search needs
-
-brings-refresh-requires : tie.Need-brings-refresh-requires
-brings-refresh-requires c κs = search needs
-
-write-tokens-requires : tie.Need-write-tokens-requires
-write-tokens-requires c κs = search needs
-
-same-length : tie.Need-same-length
-same-length c = search needs
-
 returns : tie.Need-returns
 unfolding replyBy
 returns c = rw (c .before .before .before .before .before .decision .given .1) (c .before .before .write-refusal .ensures)
-
-same-length-2 : tie.Need-same-length-2
-same-length-2 c = search needs
 
 returns-2 : tie.Need-returns-2
 unfolding replyBy
@@ -37,12 +16,12 @@ pub write-reply-spec : {M : Type 1} → statement M
 write-reply-spec =
     tie.close
     (tie.spec
-    enum-known-decision
-    write-refusal-requires
-    enum-told
-    brings-refresh-requires
-    write-tokens-requires
-    same-length
+    (λ c. search needs)
+    (λ c κs. search needs)
+    (λ c. search needs)
+    (λ c κs. search needs)
+    (λ c κs. search needs)
+    (λ c. search needs)
     returns
-    same-length-2
+    (λ c. search needs)
     returns-2)

@@ -4,21 +4,6 @@ use Rattle.token_request.proofs.Bodies.{body-sound}
 use Rattle.token_request.proofs.is_invalid.Statement.{statement}
 use Rattle.token_request.proofs.is_invalid.Tie as tie
 
-array-copy-out-grant : tie.Need-array-copy-out-grant
-array-copy-out-grant c = search needs
-
-array-copy-out-secret : tie.Need-array-copy-out-secret
-array-copy-out-secret c = search needs
-
-any-repeated-requires : tie.Need-any-repeated-requires
-any-repeated-requires c κs = search needs
-
-is-missing-requires : tie.Need-is-missing-requires
-is-missing-requires c κs = search needs
-
-is-missing-requires-2 : tie.Need-is-missing-requires-2
-is-missing-requires-2 c κs = search needs
-
 returns : tie.Need-returns
 returns c =
     let s = c .before .before .before .before .before .before .before in
@@ -29,9 +14,9 @@ pub is-invalid-spec : {M : Type 1} → statement M
 is-invalid-spec =
     tie.close
     (tie.spec
-    array-copy-out-grant
-    array-copy-out-secret
-    any-repeated-requires
-    is-missing-requires
-    is-missing-requires-2
+    (λ c. search needs)
+    (λ c. search needs)
+    (λ c κs. search needs)
+    (λ c κs. search needs)
+    (λ c κs. search needs)
     returns)

@@ -16,20 +16,11 @@ decoded : (c : tie.After-value-into)
 decoded c =
     front-value (start c .args .body .now) (start c .args .p) (start c .pre .1) _ _ (c .value-into .ensures .0) (c .value-into .ensures .1)
 
-slice-aggregate-value-into : tie.Need-slice-aggregate-value-into
-slice-aggregate-value-into c = search needs
-
-value-into-requires : tie.Need-value-into-requires
-value-into-requires c κs = search needs
-
 array-share-prefix-buffer : tie.Need-array-share-prefix-buffer
 array-share-prefix-buffer c = decoded (c .before) .fits
 
 slice-aggregate-read-handle : tie.Need-slice-aggregate-read-handle
 slice-aggregate-read-handle c = decoded (c .before .before) .count
-
-read-handle-requires : tie.Need-read-handle-requires
-read-handle-requires c κs = search needs
 
 returns : tie.Need-returns
 returns c = c .read-handle .ensures ∙ ap readHandle (decoded (c .before .before .before) .text)
@@ -38,9 +29,9 @@ pub presented-by-spec : {M : Type 1} → statement M
 presented-by-spec =
     tie.close
     (tie.spec
-    slice-aggregate-value-into
-    value-into-requires
+    (λ c. search needs)
+    (λ c κs. search needs)
     array-share-prefix-buffer
     slice-aggregate-read-handle
-    read-handle-requires
+    (λ c κs. search needs)
     returns)

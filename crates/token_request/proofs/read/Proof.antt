@@ -14,23 +14,11 @@ use Rattle.token_request.proofs.read.Tie as tie
 abbrev start : tie.After-read → tie.Start
 start c = c .before .before .before .before .before .before
 
-refuse-requires : tie.Need-refuse-requires
-refuse-requires c κs = search needs
-
 returns : tie.Need-returns
 returns c =
     let a = c .before .before .before .before .before .args in
     let long = body-long (a .header .now) (a .body .now) (c .before .if1 .taken) in
     c .refuse .ensures ∙ ap requestOf (read-invalid (clientsOf (a .registry .now)) (a .header .now) (a .body .now) long)
-
-slice-aggregate-read : tie.Need-slice-aggregate-read
-slice-aggregate-read c = search needs
-
-read-requires : tie.Need-read-requires
-read-requires c κs = search needs
-
-enum-told : tie.Need-enum-told
-enum-told c = search needs
 
 read-form-requires : tie.Need-read-form-requires
 read-form-requires c κs =
@@ -39,15 +27,6 @@ read-form-requires c κs =
     let body = s .args .body .now in
     let sound = told-well-formed tokenNames body (form .read .result) (form .read .ensures .0) (c .enum-told .given .1) in
     (s .pre, form .before .before .if1 .left, sound, names-stand body (form .read .result) (form .read .ensures .0) (form .read .ensures .1) sound)
-
-enum-told-2 : tie.Need-enum-told-2
-enum-told-2 c = search needs
-
-refuse-requires-2 : tie.Need-refuse-requires-2
-refuse-requires-2 c κs = search needs
-
-returns-2 : tie.Need-returns-2
-returns-2 c = search needs
 
 returns-3 : tie.Need-returns-3
 returns-3 c =
@@ -61,13 +40,13 @@ pub read-spec : {M : Type 1} → statement M
 read-spec =
     tie.close
     (tie.spec
-    refuse-requires
+    (λ c κs. search needs)
     returns
-    slice-aggregate-read
-    read-requires
-    enum-told
+    (λ c. search needs)
+    (λ c κs. search needs)
+    (λ c. search needs)
     read-form-requires
-    enum-told-2
-    refuse-requires-2
-    returns-2
+    (λ c. search needs)
+    (λ c κs. search needs)
+    (λ c. search needs)
     returns-3)

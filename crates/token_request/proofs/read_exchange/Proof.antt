@@ -23,33 +23,12 @@ start c = c .before .before .before .before .before
 asked : (c : tie.After-is-missing) → isMissing (formValue (start c .args .body .now) (bytes "code")) ≡ c .is-missing .result
 asked c = ap isMissing (sym (start c .pre .2 .code .value)) ∙ sym (c .is-missing .ensures)
 
-array-copy-out-code : tie.Need-array-copy-out-code
-array-copy-out-code c = search needs
-
-array-copy-out-redirect : tie.Need-array-copy-out-redirect
-array-copy-out-redirect c = search needs
-
-is-missing-requires : tie.Need-is-missing-requires
-is-missing-requires c κs = search needs
-
-refuse-requires : tie.Need-refuse-requires
-refuse-requires c κs = search needs
-
 returns : tie.Need-returns
 returns c =
     let m = c .before .before in
     let s = start m in
     c .refuse .ensures
     ∙ ap requestOf (code-missing (clientsOf (s .args .registry .now)) (s .args .client .number) (s .args .body .now) (asked m ∙ c .before .if1 .taken))
-
-presented-by-requires : tie.Need-presented-by-requires
-presented-by-requires c κs = search needs
-
-redirect-requires : tie.Need-redirect-requires
-redirect-requires c κs = search needs
-
-is-once-requires : tie.Need-is-once-requires
-is-once-requires c κs = search needs
 
 cast-caller : tie.Need-cast-caller
 cast-caller c =
@@ -71,13 +50,13 @@ pub read-exchange-spec : {M : Type 1} → statement M
 read-exchange-spec =
     tie.close
     (tie.spec
-    array-copy-out-code
-    array-copy-out-redirect
-    is-missing-requires
-    refuse-requires
+    (λ c. search needs)
+    (λ c. search needs)
+    (λ c κs. search needs)
+    (λ c κs. search needs)
     returns
-    presented-by-requires
-    redirect-requires
-    is-once-requires
+    (λ c κs. search needs)
+    (λ c κs. search needs)
+    (λ c κs. search needs)
     cast-caller
     returns-2)

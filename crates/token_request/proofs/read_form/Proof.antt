@@ -29,36 +29,12 @@ admitted c =
     told-client (s .args .registry .now) (s .args .header .now) (s .args .body .now) (s .pre .0) (c .client .given .0 .0)
     (sym (c .client .given .1) ∙ c .before .before .authenticate .ensures)
 
-is-invalid-requires : tie.Need-is-invalid-requires
-is-invalid-requires c κs = search needs
-
-refuse-requires : tie.Need-refuse-requires
-refuse-requires c κs = search needs
-
 returns : tie.Need-returns
 returns c =
     let i = c .before .before in
     let a = start i .args in
     c .refuse .ensures
     ∙ ap requestOf (read-invalid (clientsOf (a .registry .now)) (a .header .now) (a .body .now) (sym (i .is-invalid .ensures) ∙ c .before .if1 .taken))
-
-array-copy-out-id : tie.Need-array-copy-out-id
-array-copy-out-id c = search needs
-
-array-copy-out-secret : tie.Need-array-copy-out-secret
-array-copy-out-secret c = search needs
-
-authenticate-requires : tie.Need-authenticate-requires
-authenticate-requires c κs = search needs
-
-enum-known-client : tie.Need-enum-known-client
-enum-known-client c = search needs
-
-enum-told : tie.Need-enum-told
-enum-told c = search needs
-
-refuse-requires-2 : tie.Need-refuse-requires-2
-refuse-requires-2 c κs = search needs
 
 returns-2 : tie.Need-returns-2
 returns-2 c =
@@ -88,15 +64,15 @@ pub read-form-spec : {M : Type 1} → statement M
 read-form-spec =
     tie.close
     (tie.spec
-    is-invalid-requires
-    refuse-requires
+    (λ c κs. search needs)
+    (λ c κs. search needs)
     returns
-    array-copy-out-id
-    array-copy-out-secret
-    authenticate-requires
-    enum-known-client
-    enum-told
-    refuse-requires-2
+    (λ c. search needs)
+    (λ c. search needs)
+    (λ c κs. search needs)
+    (λ c. search needs)
+    (λ c. search needs)
+    (λ c κs. search needs)
     returns-2
     read-grant-requires
     returns-3)

@@ -23,33 +23,12 @@ first c = c .before .before .before
 refreshed : (c : tie.After-is-once2) → isOnce (bytes "refresh_token") (formValue (start (first c) .args .body .now) (bytes "grant_type")) ≡ c .is-once2 .result
 refreshed c = ap (isOnce (bytes "refresh_token")) (sym (start (first c) .pre .2 .grant-type .value)) ∙ sym (c .is-once2 .ensures)
 
-array-copy-out-grant : tie.Need-array-copy-out-grant
-array-copy-out-grant c = search needs
-
-slice-aggregate-is-once : tie.Need-slice-aggregate-is-once
-slice-aggregate-is-once c = search needs
-
-is-once-requires : tie.Need-is-once-requires
-is-once-requires c κs = search needs
-
-read-exchange-requires : tie.Need-read-exchange-requires
-read-exchange-requires c κs = search needs
-
 returns : tie.Need-returns
 returns c =
     let o = c .before .before in
     let s = start o in
     c .read-exchange .ensures
     ∙ ap requestOf (read-code (clientsOf (s .args .registry .now)) (s .args .client .number) (s .args .body .now) (coded o ∙ c .before .if1 .taken))
-
-slice-aggregate-is-once-2 : tie.Need-slice-aggregate-is-once-2
-slice-aggregate-is-once-2 c = search needs
-
-is-once-requires-2 : tie.Need-is-once-requires-2
-is-once-requires-2 c κs = search needs
-
-read-refresh-requires : tie.Need-read-refresh-requires
-read-refresh-requires c κs = search needs
 
 returns-2 : tie.Need-returns-2
 returns-2 c =
@@ -59,9 +38,6 @@ returns-2 c =
     ∙ ap requestOf
     (read-token (clientsOf (s .args .registry .now)) (s .args .client .number) (s .args .body .now) (coded (first o) ∙ o .before .before .if1 .left)
     (refreshed o ∙ c .before .if2 .taken))
-
-refuse-requires : tie.Need-refuse-requires
-refuse-requires c κs = search needs
 
 returns-3 : tie.Need-returns-3
 returns-3 c =
@@ -76,14 +52,14 @@ pub read-grant-spec : {M : Type 1} → statement M
 read-grant-spec =
     tie.close
     (tie.spec
-    array-copy-out-grant
-    slice-aggregate-is-once
-    is-once-requires
-    read-exchange-requires
+    (λ c. search needs)
+    (λ c. search needs)
+    (λ c κs. search needs)
+    (λ c κs. search needs)
     returns
-    slice-aggregate-is-once-2
-    is-once-requires-2
-    read-refresh-requires
+    (λ c. search needs)
+    (λ c κs. search needs)
+    (λ c κs. search needs)
     returns-2
-    refuse-requires
+    (λ c κs. search needs)
     returns-3)

@@ -18,29 +18,11 @@ start c = c .before .before .before .before .before
 asked : (c : tie.After-is-missing) → isMissing (formValue (start c .args .body .now) (bytes "refresh_token")) ≡ c .is-missing .result
 asked c = ap isMissing (sym (start c .pre .2 .refresh-token .value)) ∙ sym (c .is-missing .ensures)
 
-array-copy-out-token : tie.Need-array-copy-out-token
-array-copy-out-token c = search needs
-
-array-copy-out-scope : tie.Need-array-copy-out-scope
-array-copy-out-scope c = search needs
-
-is-missing-requires : tie.Need-is-missing-requires
-is-missing-requires c κs = search needs
-
-refuse-requires : tie.Need-refuse-requires
-refuse-requires c κs = search needs
-
 returns : tie.Need-returns
 returns c =
     let m = c .before .before in
     let s = start m in
     c .refuse .ensures ∙ ap requestOf (token-missing (s .args .client .number) (s .args .body .now) (asked m ∙ c .before .if1 .taken))
-
-presented-by-requires : tie.Need-presented-by-requires
-presented-by-requires c κs = search needs
-
-scope-asked-requires : tie.Need-scope-asked-requires
-scope-asked-requires c κs = search needs
 
 cast-caller : tie.Need-cast-caller
 cast-caller c =
@@ -59,12 +41,12 @@ pub read-refresh-spec : {M : Type 1} → statement M
 read-refresh-spec =
     tie.close
     (tie.spec
-    array-copy-out-token
-    array-copy-out-scope
-    is-missing-requires
-    refuse-requires
+    (λ c. search needs)
+    (λ c. search needs)
+    (λ c κs. search needs)
+    (λ c κs. search needs)
     returns
-    presented-by-requires
-    scope-asked-requires
+    (λ c κs. search needs)
+    (λ c κs. search needs)
     cast-caller
     returns-2)

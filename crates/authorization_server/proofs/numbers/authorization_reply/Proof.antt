@@ -3,15 +3,9 @@ use borrow.Author.Needs.{needs}
 use Rattle.authorization_server.proofs.numbers.authorization_reply.Statement.{statement}
 use Rattle.authorization_server.proofs.numbers.authorization_reply.Tie as tie
 
-decision-number-requires : tie.Need-decision-number-requires
-decision-number-requires c κs = search needs
-
-decision-error-requires : tie.Need-decision-error-requires
-decision-error-requires c κs = search needs
-
 returns : tie.Need-returns
 returns c = rw (c .before .decision-number .ensures, c .decision-error .ensures)
 
 pub authorization-reply-spec : {M : Type 1} → statement M
 authorization-reply-spec =
-    tie.close (tie.spec decision-number-requires decision-error-requires returns)
+    tie.close (tie.spec (λ c κs. search needs) (λ c κs. search needs) returns)

@@ -12,18 +12,6 @@ as-number : (b : Bool) → boolByte b ≡ bit b
 as-number true = refl
 as-number false = refl
 
-decision-number-requires : tie.Need-decision-number-requires
-decision-number-requires c κs = search needs
-
-status-of-requires : tie.Need-status-of-requires
-status-of-requires c κs = search needs
-
-decision-error-requires : tie.Need-decision-error-requires
-decision-error-requires c κs = search needs
-
-cast-t6 : tie.Need-cast-t6
-cast-t6 c = search needs
-
 returns : tie.Need-returns
 returns c =
     rw (c .before .before .before .decision-number .ensures, c .before .before .status-of .ensures, c .before .decision-error .ensures, as-number (c .before .before .before .before .args .a .challenge))
@@ -31,4 +19,4 @@ returns c =
 pub token-reply-spec : {M : Type 1} → statement M
 token-reply-spec =
     tie.close
-    (tie.spec decision-number-requires status-of-requires decision-error-requires cast-t6 returns)
+    (tie.spec (λ c κs. search needs) (λ c κs. search needs) (λ c κs. search needs) (λ c. search needs) returns)

@@ -14,18 +14,6 @@ fits c =
     let a = c .before .before .before .before .args in
     found-within (a .s .now) (a .self .at) (c .index-of .result) (c .index-of .ensures) (c .before .before .if1 .taken)
 
-sub-index-of : tie.Need-sub-index-of
-sub-index-of c = search needs
-
-part-index-of-start : tie.Need-part-index-of-start
-part-index-of-start c = search needs
-
-part-index-of-end : tie.Need-part-index-of-end
-part-index-of-end c = search needs
-
-index-of-requires : tie.Need-index-of-requires
-index-of-requires c κs = search needs
-
 add-t8 : tie.Need-add-t8
 add-t8 c = omega (arith, fits c)
 
@@ -49,10 +37,10 @@ pub next-spec : {M : Type 1} → statement M
 next-spec =
     tie.close
     (tie.spec
-    sub-index-of
-    part-index-of-start
-    part-index-of-end
-    index-of-requires
+    (λ c. search needs)
+    (λ c. search needs)
+    (λ c. search needs)
+    (λ c κs. search needs)
     add-t8
     add-t12
     add-t13

@@ -5,19 +5,10 @@ use Rattle.token_store.proofs.Codec.{farm-at}
 use Rattle.token_store.proofs.fields.farm_of.Statement.{statement}
 use Rattle.token_store.proofs.fields.farm_of.Tie as tie
 
-slot-start-requires : tie.Need-slot-start-requires
-slot-start-requires c κs = search needs
-
-add-read-be32 : tie.Need-add-read-be32
-add-read-be32 c = search needs
-
-read-be32-requires : tie.Need-read-be32-requires
-read-be32-requires c κs = search needs
-
 returns : tie.Need-returns
 returns c =
     let s = c .before .before .before in
     c .read-be32 .ensures ∙ rw (c .before .slot-start .ensures) (sym (farm-at (s .args .store .now) (s .args .i) (s .pre .0) (s .pre .1)))
 
 pub farm-of-spec : {M : Type 1} → statement M
-farm-of-spec = tie.close (tie.spec slot-start-requires add-read-be32 read-be32-requires returns)
+farm-of-spec = tie.close (tie.spec (λ c κs. search needs) (λ c. search needs) (λ c κs. search needs) returns)

@@ -9,27 +9,6 @@ use Rattle.token_store.proofs.Codec.{handle-at}
 use Rattle.token_store.proofs.fields.has_handle.Statement.{statement}
 use Rattle.token_store.proofs.fields.has_handle.Tie as tie
 
-slot-start-requires : tie.Need-slot-start-requires
-slot-start-requires c κs = search needs
-
-add-at : tie.Need-add-at
-add-at c = search needs
-
-add-end : tie.Need-add-end
-add-end c = search needs
-
-sub-equal : tie.Need-sub-equal
-sub-equal c = search needs
-
-part-equal-start : tie.Need-part-equal-start
-part-equal-start c = search needs
-
-part-equal-end : tie.Need-part-equal-end
-part-equal-end c = search needs
-
-equal-requires : tie.Need-equal-requires
-equal-requires c κs = search needs
-
 returns : tie.Need-returns
 returns c =
     let s = c .before .before .before .before .before in
@@ -43,11 +22,11 @@ pub has-handle-spec : {M : Type 1} → statement M
 has-handle-spec =
     tie.close
     (tie.spec
-    slot-start-requires
-    add-at
-    add-end
-    sub-equal
-    part-equal-start
-    part-equal-end
-    equal-requires
+    (λ c κs. search needs)
+    (λ c. search needs)
+    (λ c. search needs)
+    (λ c. search needs)
+    (λ c. search needs)
+    (λ c. search needs)
+    (λ c κs. search needs)
     returns)

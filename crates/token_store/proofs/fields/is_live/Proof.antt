@@ -3,14 +3,8 @@ use borrow.Author.Needs.{needs}
 use Rattle.token_store.proofs.fields.is_live.Statement.{statement}
 use Rattle.token_store.proofs.fields.is_live.Tie as tie
 
-kind-of-requires : tie.Need-kind-of-requires
-kind-of-requires c κs = search needs
-
-expiry-of-requires : tie.Need-expiry-of-requires
-expiry-of-requires c κs = search needs
-
 returns : tie.Need-returns
 returns c = rw (c .before .kind-of .ensures, c .expiry-of .ensures)
 
 pub is-live-spec : {M : Type 1} → statement M
-is-live-spec = tie.close (tie.spec kind-of-requires expiry-of-requires returns)
+is-live-spec = tie.close (tie.spec (λ c κs. search needs) (λ c κs. search needs) returns)

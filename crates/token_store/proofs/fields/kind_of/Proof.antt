@@ -5,16 +5,10 @@ use Rattle.token_store.proofs.Codec.{kind-at}
 use Rattle.token_store.proofs.fields.kind_of.Statement.{statement}
 use Rattle.token_store.proofs.fields.kind_of.Tie as tie
 
-slot-start-requires : tie.Need-slot-start-requires
-slot-start-requires c κs = search needs
-
-shared-slice-read-result : tie.Need-shared-slice-read-result
-shared-slice-read-result c = search needs
-
 returns : tie.Need-returns
 returns c =
     let s = c .before .before .before in
     rw (c .before .slot-start .ensures) (sym (kind-at (s .args .store .now) (s .args .i) (s .pre .0) (s .pre .1)))
 
 pub kind-of-spec : {M : Type 1} → statement M
-kind-of-spec = tie.close (tie.spec slot-start-requires shared-slice-read-result returns)
+kind-of-spec = tie.close (tie.spec (λ c κs. search needs) (λ c. search needs) returns)

@@ -5,15 +5,6 @@ use Rattle.token_store.proofs.Codec.{scope-at}
 use Rattle.token_store.proofs.fields.scope_of.Statement.{statement}
 use Rattle.token_store.proofs.fields.scope_of.Tie as tie
 
-slot-start-requires : tie.Need-slot-start-requires
-slot-start-requires c κs = search needs
-
-add-result : tie.Need-add-result
-add-result c = search needs
-
-shared-slice-read-result : tie.Need-shared-slice-read-result
-shared-slice-read-result c = search needs
-
 returns : tie.Need-returns
 returns c =
     let s = c .before .before .before in
@@ -21,4 +12,4 @@ returns c =
 
 pub scope-of-spec : {M : Type 1} → statement M
 scope-of-spec =
-    tie.close (tie.spec slot-start-requires add-result shared-slice-read-result returns)
+    tie.close (tie.spec (λ c κs. search needs) (λ c. search needs) (λ c. search needs) returns)

@@ -28,9 +28,6 @@ returns c =
     let a = c .before .before .args in
     sym (unfit-size (a .clients) (a .store .now) (c .if1 .taken))
 
-time-of-requires : tie.Need-time-of-requires Inv-loop μ-loop
-time-of-requires c κs = search needs
-
 returns-2 : tie.Need-returns-2 Inv-loop μ-loop
 returns-2 c =
     let a = c .before .before .before .before .args in
@@ -58,38 +55,11 @@ turn c =
     in
     rw e (every-step (fitSlot (a .clients)) (decode b .slots) (l .loop .i) freeSlot (omega (arith, length-slots b)))
 
-loop-holds : tie.Need-loop-holds Inv-loop μ-loop
-loop-holds c = search needs
-
-slot-start-requires : tie.Need-slot-start-requires Inv-loop μ-loop
-slot-start-requires c κs = search needs
-
-add-end : tie.Need-add-end Inv-loop μ-loop
-add-end c = search needs
-
-sub-fit-slot : tie.Need-sub-fit-slot Inv-loop μ-loop
-sub-fit-slot c = search needs
-
-part-fit-slot-start : tie.Need-part-fit-slot-start Inv-loop μ-loop
-part-fit-slot-start c = search needs
-
-part-fit-slot-end : tie.Need-part-fit-slot-end Inv-loop μ-loop
-part-fit-slot-end c = search needs
-
-fit-slot-requires : tie.Need-fit-slot-requires Inv-loop μ-loop
-fit-slot-requires c κs = search needs
-
 returns-3 : tie.Need-returns-3 Inv-loop μ-loop
 returns-3 c =
     let l = c .before .before .before .before .before in
     let t = turn (c .before) in
     sym (rest l ∙ sym (l .loop .inv .1) ∙ t ∙ rw (not-true (c .before .fit-slot .result) (c .if3 .taken)))
-
-add-i : tie.Need-add-i Inv-loop μ-loop
-add-i c = search needs
-
-loop-less : tie.Need-loop-less Inv-loop μ-loop
-loop-less c = search needs
 
 loop-again : tie.Need-loop-again Inv-loop μ-loop
 loop-again c =
@@ -111,17 +81,17 @@ fit-spec =
     Inv-loop
     μ-loop
     returns
-    time-of-requires
+    (λ c κs. search needs)
     returns-2
-    loop-holds
-    slot-start-requires
-    add-end
-    sub-fit-slot
-    part-fit-slot-start
-    part-fit-slot-end
-    fit-slot-requires
+    (λ c. search needs)
+    (λ c κs. search needs)
+    (λ c. search needs)
+    (λ c. search needs)
+    (λ c. search needs)
+    (λ c. search needs)
+    (λ c κs. search needs)
     returns-3
-    add-i
-    loop-less
+    (λ c. search needs)
+    (λ c. search needs)
     loop-again
     returns-4)

@@ -5,23 +5,11 @@ use Rattle.token_store.proofs.Fits.{fit-zero, fit-kinds}
 use Rattle.token_store.proofs.fitness.fit_slot.Statement.{statement}
 use Rattle.token_store.proofs.fitness.fit_slot.Tie as tie
 
-shared-slice-read-kind : tie.Need-shared-slice-read-kind
-shared-slice-read-kind c = search needs
-
-all-zero-requires : tie.Need-all-zero-requires
-all-zero-requires c κs = search needs
-
 returns : tie.Need-returns
 returns c =
     let s = c .before .before .before .before in
     c .all-zero .ensures
     ∙ fit-zero (s .args .clients) (s .args .slot .now) (s .pre) (λ k. c .before .before .before .shared-slice-known .given k .fits) (c .before .if1 .taken)
-
-shared-slice-read-result : tie.Need-shared-slice-read-result
-shared-slice-read-result c = search needs
-
-shared-slice-read-result-2 : tie.Need-shared-slice-read-result-2
-shared-slice-read-result-2 c = search needs
 
 returns-2 : tie.Need-returns-2
 returns-2 c =
@@ -32,9 +20,9 @@ pub fit-slot-spec : {M : Type 1} → statement M
 fit-slot-spec =
     tie.close
     (tie.spec
-    shared-slice-read-kind
-    all-zero-requires
+    (λ c. search needs)
+    (λ c κs. search needs)
     returns
-    shared-slice-read-result
-    shared-slice-read-result-2
+    (λ c. search needs)
+    (λ c. search needs)
     returns-2)

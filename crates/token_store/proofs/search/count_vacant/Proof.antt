@@ -30,21 +30,6 @@ turn c =
     let l = c .before .before .loop in
     rw (c .is-live .ensures) (count-next (isVacant (a .t)) (decode (a .store .now) .slots) (l .i) freeSlot (omega (arith, length-slots (a .store .now))))
 
-loop-holds : tie.Need-loop-holds Inv-loop μ-loop
-loop-holds c = search needs
-
-is-live-requires : tie.Need-is-live-requires Inv-loop μ-loop
-is-live-requires c κs = search needs
-
-add-n : tie.Need-add-n Inv-loop μ-loop
-add-n c = search needs
-
-add-i : tie.Need-add-i Inv-loop μ-loop
-add-i c = search needs
-
-loop-less : tie.Need-loop-less Inv-loop μ-loop
-loop-less c = search needs
-
 loop-again : tie.Need-loop-again Inv-loop μ-loop
 loop-again c =
     ⊎-elim
@@ -61,4 +46,4 @@ returns c =
 pub count-vacant-spec : {M : Type 1} → statement M
 count-vacant-spec =
     tie.close
-    (tie.spec Inv-loop μ-loop loop-holds is-live-requires add-n add-i loop-less loop-again returns)
+    (tie.spec Inv-loop μ-loop (λ c. search needs) (λ c κs. search needs) (λ c. search needs) (λ c. search needs) (λ c. search needs) loop-again returns)

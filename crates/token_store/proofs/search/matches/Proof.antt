@@ -7,20 +7,11 @@ use Rattle.token_store.specs.Store.{decode, slotOf, isSought}
 use Rattle.token_store.proofs.search.matches.Statement.{statement}
 use Rattle.token_store.proofs.search.matches.Tie as tie
 
-is-sought-requires : tie.Need-is-sought-requires
-is-sought-requires c κs = search needs
-
 returns : tie.Need-returns
 returns c =
     let a = c .before .before .before .args in
     let e : isSought (a .sought) (slotOf (decode (a .store .now)) (a .i)) ≡ false = sym (c .before .is-sought .ensures) ∙ not-true _ (c .if1 .taken) in
     rw e
-
-slice-aggregate-has-handle : tie.Need-slice-aggregate-has-handle
-slice-aggregate-has-handle c = search needs
-
-has-handle-requires : tie.Need-has-handle-requires
-has-handle-requires c κs = search needs
 
 returns-2 : tie.Need-returns-2
 returns-2 c =
@@ -33,4 +24,4 @@ returns-2 c =
 pub matches-spec : {M : Type 1} → statement M
 matches-spec =
     tie.close
-    (tie.spec is-sought-requires returns slice-aggregate-has-handle has-handle-requires returns-2)
+    (tie.spec (λ c κs. search needs) returns (λ c. search needs) (λ c κs. search needs) returns-2)

@@ -24,12 +24,6 @@ abbrev μ-loop : tie.MeasureT-loop
 within : (c : tie.In-loop Inv-loop μ-loop) → c .before .loop .i < length (decode (c .before .before .before .args .store .now) .slots)
 within c = omega (arith, length-slots (c .before .before .before .args .store .now))
 
-loop-holds : tie.Need-loop-holds Inv-loop μ-loop
-loop-holds c = search needs
-
-is-live-requires : tie.Need-is-live-requires Inv-loop μ-loop
-is-live-requires c κs = search needs
-
 returns : tie.Need-returns Inv-loop μ-loop
 returns c =
     let a = c .before .before .before .before .before .args in
@@ -37,12 +31,6 @@ returns c =
     let slots = decode (a .store .now) .slots in
     let l = c .before .before .before .loop in
     sym (index-stop p slots (l .i) freeSlot (within (c .before .before)) (sym (ap not (c .before .is-live .ensures)) ∙ c .if1 .taken)) ∙ l .inv .1
-
-add-i : tie.Need-add-i Inv-loop μ-loop
-add-i c = search needs
-
-loop-less : tie.Need-loop-less Inv-loop μ-loop
-loop-less c = search needs
 
 loop-again : tie.Need-loop-again Inv-loop μ-loop
 loop-again c =
@@ -67,10 +55,10 @@ vacant-spec =
     (tie.spec
     Inv-loop
     μ-loop
-    loop-holds
-    is-live-requires
+    (λ c. search needs)
+    (λ c κs. search needs)
     returns
-    add-i
-    loop-less
+    (λ c. search needs)
+    (λ c. search needs)
     loop-again
     returns-2)

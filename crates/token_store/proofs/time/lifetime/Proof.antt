@@ -9,12 +9,6 @@ use Rattle.token_store.specs.Store.{lifetimeOf}
 use Rattle.token_store.proofs.time.lifetime.Statement.{statement}
 use Rattle.token_store.proofs.time.lifetime.Tie as tie
 
-mul-result : tie.Need-mul-result
-mul-result c = search needs
-
-array-read-result : tie.Need-array-read-result
-array-read-result c = search needs
-
 lifetimes : List ℕ
 lifetimes = 0 ∷ 600 ∷ 600 ∷ 3600 ∷ 2592000 ∷ []
 
@@ -25,4 +19,4 @@ returns c =
     eqb→eq (getD lifetimes kind 0) (lifetimeOf kind) (at (λ k x. eqb x (lifetimeOf k)) 0 lifetimes tt kind (search needs))
 
 pub lifetime-spec : {M : Type 1} → statement M
-lifetime-spec = tie.close (tie.spec mul-result array-read-result returns)
+lifetime-spec = tie.close (tie.spec (λ c. search needs) (λ c. search needs) returns)

@@ -6,16 +6,10 @@ use Rattle.token_store.proofs.Codec.{decode-time}
 use Rattle.token_store.proofs.time.set_time.Statement.{statement}
 use Rattle.token_store.proofs.time.set_time.Tie as tie
 
-write-be-requires : tie.Need-write-be-requires
-write-be-requires c κs = search needs
-
-same-length : tie.Need-same-length
-same-length c = search needs
-
 returns : tie.Need-returns
 returns c =
     let s = c .before .before .before .before .before in
     ap decode (c .before .before .write-be .ensures) ∙ decode-time (s .args .store .now) (s .args .t) (s .pre) (s .fits .t .fits)
 
 pub set-time-spec : {M : Type 1} → statement M
-set-time-spec = tie.close (tie.spec write-be-requires same-length returns)
+set-time-spec = tie.close (tie.spec (λ c κs. search needs) (λ c. search needs) returns)

@@ -5,12 +5,9 @@ use Rattle.token_store.proofs.Codec.{time-at}
 use Rattle.token_store.proofs.time.time_of.Statement.{statement}
 use Rattle.token_store.proofs.time.time_of.Tie as tie
 
-read-be64-requires : tie.Need-read-be64-requires
-read-be64-requires c κs = search needs
-
 returns : tie.Need-returns
 returns c =
     c .read-be64 .ensures ∙ sym (time-at (c .before .before .args .store .now))
 
 pub time-of-spec : {M : Type 1} → statement M
-time-of-spec = tie.close (tie.spec read-be64-requires returns)
+time-of-spec = tie.close (tie.spec (λ c κs. search needs) returns)

@@ -10,15 +10,6 @@ use Rattle.token_store.proofs.Codec.{decode-put}
 use Rattle.token_store.proofs.write.clear.Statement.{statement}
 use Rattle.token_store.proofs.write.clear.Tie as tie
 
-slot-start-requires : tie.Need-slot-start-requires
-slot-start-requires c κs = search needs
-
-clear-at-requires : tie.Need-clear-at-requires
-clear-at-requires c κs = search needs
-
-same-length : tie.Need-same-length
-same-length c = search needs
-
 returns : tie.Need-returns
 returns c =
     let s = c .before .before .before .before .before .before in
@@ -28,4 +19,4 @@ returns c =
     ∙ ap (withSlot (decode b) (s .args .i)) free-read
 
 pub clear-spec : {M : Type 1} → statement M
-clear-spec = tie.close (tie.spec slot-start-requires clear-at-requires same-length returns)
+clear-spec = tie.close (tie.spec (λ c κs. search needs) (λ c κs. search needs) (λ c. search needs) returns)

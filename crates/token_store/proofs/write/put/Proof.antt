@@ -24,44 +24,17 @@ length-2 c = (simp length-set at (c .write-be .kept .0)) ∙ length-1 (c .before
 length-3 : (c : tie.After-write-be2) → length (c .write-be2 .last .0) ≡ storeSize
 length-3 c = (simp length-set at (c .write-be2 .kept .0)) ∙ length-2 (c .before .before .before .before)
 
-slot-start-requires : tie.Need-slot-start-requires
-slot-start-requires c κs = search needs
-
-slice-write-store : tie.Need-slice-write-store
-slice-write-store c = search needs
-
-add-copy-at : tie.Need-add-copy-at
-add-copy-at c = search needs
-
-slice-aggregate-copy-at : tie.Need-slice-aggregate-copy-at
-slice-aggregate-copy-at c = search needs
-
 copy-at-requires : tie.Need-copy-at-requires
 copy-at-requires c κs = simp length-set (omega (arith, fits (c .before .before .before .before .before) .handle))
-
-add-store : tie.Need-add-store
-add-store c = search needs
 
 slice-write-store-2 : tie.Need-slice-write-store-2
 slice-write-store-2 c = omega (arith, length-1 (c .before .before))
 
-add-write-be : tie.Need-add-write-be
-add-write-be c = search needs
-
-cast-write-be : tie.Need-cast-write-be
-cast-write-be c = search needs
-
 write-be-requires : tie.Need-write-be-requires
 write-be-requires c κs = simp length-set (omega (arith, length-1 (c .before .before .before .before)))
 
-add-store-2 : tie.Need-add-store-2
-add-store-2 c = search needs
-
 slice-write-store-3 : tie.Need-slice-write-store-3
 slice-write-store-3 c = omega (arith, length-2 (c .before .before))
-
-add-write-be-2 : tie.Need-add-write-be-2
-add-write-be-2 c = search needs
 
 write-be-requires-2 : tie.Need-write-be-requires-2
 write-be-requires-2 c κs = simp length-set (omega (arith, length-2 (c .before .before .before)))
@@ -92,19 +65,19 @@ pub put-spec : {M : Type 1} → statement M
 put-spec =
     tie.close
     (tie.spec
-    slot-start-requires
-    slice-write-store
-    add-copy-at
-    slice-aggregate-copy-at
+    (λ c κs. search needs)
+    (λ c. search needs)
+    (λ c. search needs)
+    (λ c. search needs)
     copy-at-requires
-    add-store
+    (λ c. search needs)
     slice-write-store-2
-    add-write-be
-    cast-write-be
+    (λ c. search needs)
+    (λ c. search needs)
     write-be-requires
-    add-store-2
+    (λ c. search needs)
     slice-write-store-3
-    add-write-be-2
+    (λ c. search needs)
     write-be-requires-2
     same-length
     returns)
