@@ -1,33 +1,37 @@
--- Laws of refusals 1 to 4, and of a call that is past them.
+-- Laws of a call's way in and out.
 --
--- In order: what the fitness of a registry tells; which refusal applies, one law for each way out of the code; what is
--- known past them (`Admitted`); and the store's bytes from the store that they decode to (`stored`).
+-- In order: what the fitness of a registry tells; a call that is let in (`Admitted`), or not; what is known of it then; an
+-- outcome from its steps, for any endpoint.
 -- Assumes nothing.
-use Prim.Native.Nat.{ℕ, _<_, _≤_}
+use Prim.Native.Nat.{ℕ, _≤_}
 use mathlib.Core.Path.{_≡_, refl, sym, ap, _∙_}
-use mathlib.Core.Bool.{Bool, true, false, cond, not}
+use mathlib.Core.Bool.{Bool, true, false, not}
 use mathlib.Core.List.{List}
 use native.Mathlib.Omega.{arith}
-use borrow.Author.Tests.{lt-ltb, le-ltb, ltb-false}
-use lib.Dec.{ltb}
+use borrow.Author.Tests.{not-false, ltb-false, eqb-true}
+use lib.Dec.{ltb, eqb, lit<}
 use lib.ListN.{length}
-use Rattle.client_registry.specs.Registry.{clientsOf, fitRegistry, fitnessOf, countIf}
-use Rattle.client_registry.specs.declared.Fitness.{Fitness}
-use Rattle.client_registry.specs.declared.Fitness.the-variants.{Clients, Unfit as UnfitBytes}
-use Rattle.client_registry.proofs.Clients.{fit-count}
 use Rattle.octets.specs.Lists.{Bytes}
+use Rattle.octets.proofs.Booleans.{or-none}
+use Rattle.client_registry.specs.Registry.{clientsOf, fitRegistry, fitnessOf, countIf}
+use Rattle.client_registry.specs.declared.Fitness.the-variants.{Clients, Unfit as UnfitBytes}
 use Rattle.token_store.specs.Layout.{latestTime, storeSize}
-use Rattle.token_store.specs.Store.{callTime, decode, encode}
-use Rattle.token_store.specs.Store as Stores
+use Rattle.token_store.specs.Store.{callTime, decode, encode, withTime}
 use Rattle.token_store.specs.Fit.{fitStore}
 use Rattle.token_store.proofs.Codec.{encode-decode}
 use Rattle.token_store.proofs.Fits.{fit-size, fit-time}
 use Rattle.protocol.specs.declared.Decision.{Decision}
 use Rattle.protocol.specs.declared.Decision.the-variants.{Grant, Refuse}
+use Rattle.protocol.specs.declared.Refusal.{Refusal}
 use Rattle.protocol.specs.declared.Refusal.the-variants.{Unfit}
-use Rattle.protocol.specs.declared.Input.the-variants.{Buffers, Registry, Store, Clock}
-use Rattle.protocol.specs.Granting.{refuseIf}
-use Rattle.protocol.specs.Outcomes.{admit}
+use Rattle.protocol.specs.declared.Input.the-variants.{Buffers}
+use Rattle.protocol.specs.Limits.{leastOutput}
+use Rattle.protocol.specs.Answers.{isGrant}
+use Rattle.protocol.specs.Outcomes.{unfitReasons, unfitBuffers, Handed, Endpoint, admit, outcomeBy, outcome}
+use Rattle.protocol.proofs.Reasons.{unrefused}
+use Rattle.admission.specs.declared.Admission.{Admission}
+use Rattle.admission.specs.declared.Admission.the-variants.{Refused, At}
+use Rattle.admission.specs.Entering.{admissionBy, Entered, Ready, Serves}
 
 -- ---- what the fitness of a registry tells
 
@@ -46,68 +50,93 @@ module _ (registry : List ℕ) where
       by true f e = let z : _≡_ {A = ℕ} 0 1 = cc in absurd (omega arith)
       by false f e = f
 
-  -- a number of clients is a byte
-  pub few-clients : (n : ℕ) → Clients n ≡ fitnessOf registry → n < 256
-  few-clients n e = let t = told-clients n e in omega (arith, fit-count registry (t .0) .most, t .1)
+-- ---- a call that is let in
 
--- ---- the ways out
-
-module _ (registry store : List ℕ) (clock : ℕ) where
-  pub admit-buffers : (fits : Bool) → fits ≡ false → Refuse (Unfit Buffers) ≡ admit (not fits) registry store clock
-  unfolding admit refuseIf
-  admit-buffers fits e = rw e
-
-  module _ (fits : Bool) (f : fits ≡ true) where
-    pub admit-registry : fitRegistry registry ≡ false → Refuse (Unfit Registry) ≡ admit (not fits) registry store clock
-    unfolding admit refuseIf
-    admit-registry e = rw (f, e)
-
-    module _ (n : ℕ) (e : Clients n ≡ fitnessOf registry) where
-      pub admit-store : fitStore n store ≡ false → Refuse (Unfit Store) ≡ admit (not fits) registry store clock
-      unfolding admit refuseIf
-      admit-store s = let t = told-clients registry n e in rw (f, t .0, ← t .1, s)
-
-      pub admit-clock : fitStore n store ≡ true → latestTime < clock → Refuse (Unfit Clock) ≡ admit (not fits) registry store clock
-      unfolding admit refuseIf
-      admit-clock s h = let t = told-clients registry n e in rw (f, t .0, ← t .1, s, lt-ltb latestTime clock h)
-
-      pub admit-all : fitStore n store ≡ true → clock ≤ latestTime → Grant ≡ admit (not fits) registry store clock
-      unfolding admit refuseIf
-      admit-all s h = let t = told-clients registry n e in rw (f, t .0, ← t .1, s, le-ltb latestTime clock h)
-
--- ---- what is known past refusals 1 to 4
-
-pub record Admitted (buffersUnfit : Bool) (registry store : List ℕ) (clock : ℕ) : Type 0 where
-  pub buffers : buffersUnfit ≡ false
+pub record Admitted (unfit : Bool) (registry store : List ℕ) (clock : ℕ) : Type 0 where
+  pub buffers : unfit ≡ false
   pub registry-fit : fitRegistry registry ≡ true
   pub store-fit : fitStore (length (clientsOf registry)) store ≡ true
   pub early : clock ≤ latestTime
 
-pub admitted : (buffersUnfit : Bool) (registry store : List ℕ) (clock : ℕ) → Grant ≡ admit buffersUnfit registry store clock
-    → Admitted buffersUnfit registry store clock
-unfolding admit refuseIf
-admitted q registry store clock e = by q refl (fitRegistry registry) refl (fitStore (length (clientsOf registry)) store) refl (ltb latestTime clock) refl e
-  where
-    by : (u : Bool) → q ≡ u → (r : Bool) → fitRegistry registry ≡ r → (s : Bool) → fitStore (length (clientsOf registry)) store ≡ s
-        → (l : Bool) → ltb latestTime clock ≡ l
-        → Grant ≡ cond u (Refuse (Unfit Buffers)) (cond (not r) (Refuse (Unfit Registry)) (cond (not s) (Refuse (Unfit Store)) (cond l (Refuse (Unfit Clock)) Grant)))
-        → Admitted q registry store clock
-    by true a r b s c l d e = let z : _≡_ {A = ℕ} 0 1 = cc in absurd (omega arith)
-    by false a false b s c l d e = let z : _≡_ {A = ℕ} 0 1 = cc in absurd (omega arith)
-    by false a true b false c l d e = let z : _≡_ {A = ℕ} 0 1 = cc in absurd (omega arith)
-    by false a true b true c true d e = let z : _≡_ {A = ℕ} 0 1 = cc in absurd (omega arith)
-    by false a true b true c false d e = record { buffers = a; registry-fit = b; store-fit = c; early = ltb-false latestTime clock d }
+pub admitted : (unfit : Bool) (registry store : List ℕ) (clock : ℕ) → Grant ≡ admit unfit registry store clock → Admitted unfit registry store clock
+unfolding admit isGrant
+admitted unfit registry store clock e =
+    let passed = unrefused (unfitReasons unfit registry store clock) (ap isGrant (sym e)) in
+    record {
+      buffers = passed 0 (lit< tt);
+      registry-fit = not-false (fitRegistry registry) (passed 1 (lit< tt));
+      store-fit = not-false (fitStore (length (clientsOf registry)) store) (passed 2 (lit< tt));
+      early = ltb-false latestTime clock (passed 3 (lit< tt));
+    }
 
-module _ {buffersUnfit : Bool} {registry store : List ℕ} {clock : ℕ} (a : Admitted buffersUnfit registry store clock) where
-  -- the store has its length, and the call's time is no later than times may be
+module _ {unfit : Bool} {registry store : List ℕ} {clock : ℕ} (a : Admitted unfit registry store clock) where
   pub store-size : length store ≡ storeSize
   store-size = fit-size (length (clientsOf registry)) store (a .store-fit)
 
-  pub time-early : callTime (decode store) clock ≤ latestTime
+  time-early : callTime (decode store) clock ≤ latestTime
   time-early = omega (arith, fit-time (length (clientsOf registry)) store (a .store-fit), a .early)
 
--- ---- from the decoded store to its bytes
+-- the sizes of buffers that are fit
+pub record Sized (size : ℕ) (random output : List ℕ) : Type 0 where
+  pub exact : length random ≡ size
+  pub room : leastOutput ≤ length output
 
--- bytes that decode to a store are the ones that it is encoded in
-pub stored : (b : List ℕ) (g : Stores.Store) → length b ≡ storeSize → Bytes b → decode b ≡ g → b ≡ encode g
-stored b g size bytes e = sym (encode-decode b size bytes) ∙ ap encode e
+pub fit-buffers : (size : ℕ) (random output : List ℕ) → unfitBuffers size random output ≡ false → Sized size random output
+fit-buffers size random output e =
+    let sized = eqb (length random) size in
+    let neither = or-none (ltb (length output) leastOutput) (not sized) e in
+    record { exact = eqb-true (length random) size (not-false sized (neither .1)); room = ltb-false (length output) leastOutput (neither .0) }
+
+-- ---- the way in, from what it answers
+
+by-admission : (d : Decision) (t u : ℕ) (x : Refusal)
+    → (Refused x ≡ admissionBy d t → d ≡ Refuse x) × (At u ≡ admissionBy d t → (d ≡ Grant) × (u ≡ t))
+unfolding admissionBy
+by-admission Grant t u x = (λ e. let z : _≡_ {A = ℕ} 0 1 = cc in absurd (omega arith), λ e. (refl, cc))
+by-admission (Refuse y) t u x = (λ e. (cc), λ e. let z : _≡_ {A = ℕ} 0 1 = cc in absurd (omega arith))
+
+module _ {unfit : Bool} {registry store : List ℕ} {clock : ℕ} {after : List ℕ} where
+  pub entered-refused : (x : Refusal) → Entered unfit registry store clock after (Refused x) → admit unfit registry store clock ≡ Refuse x
+  entered-refused x e = by-admission (admit unfit registry store clock) (callTime (decode store) clock) 0 x .0 (e .answer)
+
+  module _ {t : ℕ} (e : Entered unfit registry store clock after (At t)) where
+    pub entered-grant : (admit unfit registry store clock ≡ Grant) × (t ≡ callTime (decode store) clock)
+    entered-grant = by-admission (admit unfit registry store clock) (callTime (decode store) clock) t (Unfit Buffers) .1 (e .answer)
+
+    pub entered-admitted : Admitted unfit registry store clock
+    entered-admitted = admitted unfit registry store clock (sym (entered-grant .0))
+
+    pub entered-ready : length after ≡ length store → Ready registry after t
+    entered-ready k = record {
+      fit = entered-admitted .registry-fit;
+      size = k ∙ store-size entered-admitted;
+      early = omega (arith, entered-grant .1, time-early entered-admitted);
+    }
+
+-- ---- the outcome from its steps
+
+-- a call at an endpoint is let in, or not
+abbrev pub Enters : {Answer : Type 0} → Endpoint Answer → List ℕ → List ℕ → Handed → List ℕ → Admission → Type 0
+Enters endpoint registry store handed after r = Entered (endpoint .unfit handed) registry store (handed .clock) after r
+
+module _ {Answer : Type 0} (endpoint : Endpoint Answer) (registry store : List ℕ) (handed : Handed) where
+  pub outcome-refused : (x : Refusal) (after : List ℕ) → Enters endpoint registry store handed after (Refused x)
+      → record { answer = endpoint .refuse x; output = handed .output; store = after } ≡ outcome endpoint registry store handed
+  unfolding outcome outcomeBy
+  outcome-refused x after e = rw (e .store, entered-refused x e)
+
+  module _ {t : ℕ} {begun after : List ℕ} (e : Enters endpoint registry store handed begun (At t)) where
+    -- the bytes after a call that was served on the slots: those of the store that they decode to
+    pub outcome-served : (r : Answer) (written : List ℕ)
+        → Serves (endpoint .serve (clientsOf registry) t (decode begun .slots) (handed .random)) (decode begun) (decode after)
+        (handed .output) written r
+        → length after ≡ storeSize → Bytes after → record { answer = r; output = written; store = after } ≡ outcome endpoint registry store handed
+    unfolding outcome outcomeBy
+    outcome-served r written s size bytes =
+        let same : t ≡ callTime (decode store) (handed .clock) = entered-grant e .1 in
+        let left : decode begun ≡ withTime (decode store) t = e .store in
+        let served = endpoint .serve (clientsOf registry) t (decode begun .slots) (handed .random) in
+        let stored : after ≡ encode (record { time = decode begun .time; slots = served .slots }) =
+        sym (encode-decode after size bytes) ∙ ap encode (s .store)
+        in
+        rw (entered-grant e .0, s .answer, s .text, stored, left, same)

@@ -1,26 +1,37 @@
-// admission: refusals 1 to 4, which change nothing at all, and the time of a call that is past them.
+// admission: a call's way in. Refusals 1 to 4, which change nothing at all, and the time of a call that is past them.
 use client_registry::Fitness;
 use protocol::Decision;
 use protocol::Input;
 use protocol::Refusal;
+use protocol::limits::LEAST_OUTPUT;
 ghost use mathlib.Core.Path.{_≡_};
-ghost use mathlib.Core.Bool.{not};
-ghost use lib.ListN.{length};
-ghost use Rattle.token_store.specs.Layout.{storeSize};
-ghost use Rattle.token_store.specs.Store.{decode, callTime, withTime};
-ghost use Rattle.protocol.specs.Outcomes.{admit};
+ghost use Rattle.protocol.specs.Outcomes.{unfitBuffers, admit};
+ghost use Rattle.admission.specs.Entering.{Entered};
 
-// The first of refusals 1 to 4 that applies, or a grant to go on. `fits` says whether the buffers have their sizes.
-pub fn admit(fits: bool, registry: &[u8], store: &[u8], clock: u64) -> Decision
-    ensures { λ r. ⌜ r ≡ admit (not fits) (now (registry .entry)) (now (store .entry)) clock ⌝ }
+// How a call comes in: not at all, or at its time.
+pub enum Admission {
+    Refused(Refusal),
+    At(u64),
+}
+
+// Whether a call brings too little output, or other than so many random bytes.
+pub fn unfit_buffers(size: usize, random: &[u8], output: &[u8]) -> bool
+    ensures { λ r. ⌜ r ≡ unfitBuffers size (now (random .entry)) (now (output .entry)) ⌝ }
 {
-    if !fits {
+    (output.len() < LEAST_OUTPUT) | (random.len() != size)
+}
+
+// The first of refusals 1 to 4 that applies, or a grant to go on. `unfit` says that the buffers are.
+fn admit(unfit: bool, registry: &[u8], store: &[u8], clock: u64) -> Decision
+    ensures { λ r. ⌜ r ≡ admit unfit (now (registry .entry)) (now (store .entry)) clock ⌝ }
+{
+    if unfit {
         return Decision::Refuse(Refusal::Unfit(Input::Buffers));
     }
     let Fitness::Clients(clients) = client_registry::fitness_of(registry) else {
         return Decision::Refuse(Refusal::Unfit(Input::Registry));
     };
-    if !token_store::fit(store, clients as u8) {
+    if !token_store::fit(store, clients) {
         return Decision::Refuse(Refusal::Unfit(Input::Store));
     }
     if token_store::layout::LATEST_TIME < clock {
@@ -29,13 +40,15 @@ pub fn admit(fits: bool, registry: &[u8], store: &[u8], clock: u64) -> Decision
     Decision::Grant
 }
 
-// Stores the call's time T, the larger of the clock and the store's time, and gives it.
-pub fn begin(store: &mut [u8], clock: u64) -> u64
-    requires { ⌜ length (now store) ≡ storeSize ⌝ }
-    ensures time { λ r. ⌜ r ≡ callTime (decode (now (store .entry))) clock ⌝ }
-    ensures store { λ r. ⌜ decode (now (store .exit)) ≡ withTime (decode (now (store .entry))) r ⌝ }
+// Lets a call in, and stores its time T, the larger of the clock and the store's time.
+pub fn enter(unfit: bool, registry: &[u8], store: &mut [u8], clock: u64) -> Admission
+    ensures { λ r. ⌜ Entered unfit (now (registry .entry)) (now (store .entry)) clock (now (store .exit)) r ⌝ }
 {
+    let admitted = admit(unfit, registry, store, clock);
+    if let Decision::Refuse(refusal) = admitted {
+        return Admission::Refused(refusal);
+    }
     let t = token_store::call_time(store, clock);
     token_store::set_time(store, t);
-    t
+    Admission::At(t)
 }

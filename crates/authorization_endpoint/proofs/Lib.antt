@@ -1,2 +1,2 @@
--- Laws of a call's outcome.
-pub mod Serving
+-- Laws of a query that is answered.
+pub mod Locations

@@ -1,2 +1,2 @@
--- authorization_endpoint: what the steps of a call come to, between admission and the whole outcome.
-pub mod Serving
+-- authorization_endpoint: what a query that was read comes to.
+pub mod Locations

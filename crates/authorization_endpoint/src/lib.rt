@@ -1,43 +1,29 @@
 // authorization_endpoint: a client's user asks for a code (RFC 6749, section 4.1).
 //
 // The query is read first, without a look at the store; then a code is granted or refused on the store; then the
-// location is written. Every call that is admitted stores its time, whatever it answers.
-use authorization_query::Asked;
+// location is written. Every call that is let in stores its time, whatever it answers.
+use admission::Admission;
 use authorization_query::ClientQuery;
 use authorization_query::QueryReading;
+use encoding::HandleText;
 use protocol::AuthorizationAnswer;
 use protocol::Decision;
+use protocol::Reading;
 use protocol::Refusal;
+use protocol::limits::CODE_RANDOM;
 use token_store::layout::HANDLE_SIZE;
 ghost use mathlib.Core.Path.{_≡_};
-ghost use mathlib.Core.Bool.{true};
 ghost use Prim.Native.Nat.{_≤_};
 ghost use lib.ListN.{length};
-ghost use Rattle.client_registry.specs.Registry.{clientsOf, fitRegistry};
-ghost use Rattle.token_store.specs.Layout.{storeSize, handleSize, latestTime};
+ghost use Rattle.client_registry.specs.Registry.{clientsOf};
 ghost use Rattle.token_store.specs.Store.{decode};
-ghost use Rattle.protocol.specs.Authorization.{readAuthorization};
-ghost use Rattle.protocol.specs.Granting.{decideReading};
-ghost use Rattle.protocol.specs.Outcomes.{leastOutput, authorizationOutcome};
-ghost use Rattle.authorization_query.specs.Reading.{askedReading, Known};
-ghost use Rattle.authorization_endpoint.specs.Serving.{slotsOn, Served};
-
-// The least room for a location.
-const LEAST_OUTPUT: usize = 1024;
-
-// Decides on what the client of this number asks: a code is granted on the store, or refused.
-fn decide(asked: Asked, client: u8, store: &mut [u8], t: u64, random: &[u8]) -> Decision
-    requires { ⌜ (length (now store) ≡ storeSize) × (t ≤ latestTime) × (length (now random) ≡ handleSize) ⌝ }
-    ensures answer { λ r. ⌜ r ≡ decideReading t (decode (now (store .entry)) .slots) (now (random .entry)) (askedReading client asked) ⌝ }
-    ensures slots { λ _. ⌜ decode (now (store .exit)) ≡ slotsOn t (decode (now (store .entry))) (now (random .entry)) (askedReading client asked) ⌝ }
-{
-    match asked {
-        Asked::Error(word) => Decision::Refuse(Refusal::Redirect(word)),
-        Asked::Code { farm, scope, bound } => {
-            granting::grant_code(store, t, random, client, farm, scope, bound)
-        }
-    }
-}
+ghost use Rattle.protocol.specs.Limits.{leastOutput, codeRandom};
+ghost use Rattle.protocol.specs.Requests.{noHandle};
+ghost use Rattle.protocol.specs.Outcomes.{serveAuthorization, authorizationOutcome};
+ghost use Rattle.admission.specs.Entering.{Ready, Serves};
+ghost use Rattle.granting.specs.Granted.{randomNeeded};
+ghost use Rattle.authorization_query.specs.Reading.{Known};
+ghost use Rattle.authorization_endpoint.specs.Locations.{answered};
 
 // Answers the query of a known client: the location leads to its registered address.
 fn answer(
@@ -49,14 +35,22 @@ fn answer(
     random: &[u8],
     output: &mut [u8],
 ) -> AuthorizationAnswer
-    requires { ⌜ (fitRegistry (now registry) ≡ true) × Known (now registry) (now query) asking × (length (now store) ≡ storeSize) × (t ≤ latestTime) × (length (now random) ≡ handleSize) × (leastOutput ≤ length (now output)) ⌝ }
-    ensures { λ r. ⌜ Served t (now (registry .entry)) (now (query .entry)) (now (random .entry)) (askedReading (asking .client .number) (asking .asked)) (now (store .entry)) (now (store .exit)) (now (output .entry)) (now (output .exit)) r ⌝ }
+    requires { ⌜ Ready (now registry) (now store) t × Known (now registry) (now query) asking
+        × (randomNeeded (asking .request) ≤ codeRandom) × (length (now random) ≡ codeRandom) × (leastOutput ≤ length (now output)) ⌝ }
+    ensures { λ r. ⌜ Serves
+        (answered (clientsOf (now (registry .entry))) (now (query .entry)) (record { request = asking .request; presented = noHandle }) t
+        (decode (now (store .entry)) .slots) (now (random .entry)))
+        (decode (now (store .entry))) (decode (now (store .exit))) (now (output .entry)) (now (output .exit)) r ⌝ }
 {
     let client = asking.client;
-    let asked = asking.asked;
+    let request = asking.request;
     let state = asking.state;
-    let number = client.number as u8;
-    let decision = decide(asked, number, store, t, random);
+    let presented = HandleText {
+        valid: false,
+        bytes: [0u8; HANDLE_SIZE],
+    };
+    let granted = granting::grant(store, t, random, Reading { request, presented });
+    let decision = granted.decision;
     let redirect = client_registry::redirect(registry, client);
     let length = authorization_location::write_location(
         output,
@@ -69,7 +63,7 @@ fn answer(
     AuthorizationAnswer { decision, length }
 }
 
-// Serves a call that is admitted, at its time t.
+// Serves a call that is let in, at its time t.
 fn serve(
     query: &[u8],
     decision: u64,
@@ -80,8 +74,11 @@ fn serve(
     random: &[u8],
     output: &mut [u8],
 ) -> AuthorizationAnswer
-    requires { ⌜ (fitRegistry (now registry) ≡ true) × (length (now store) ≡ storeSize) × (t ≤ latestTime) × (length (now random) ≡ handleSize) × (leastOutput ≤ length (now output)) ⌝ }
-    ensures { λ r. ⌜ Served t (now (registry .entry)) (now (query .entry)) (now (random .entry)) (readAuthorization (clientsOf (now (registry .entry))) (now (query .entry)) decision farm) (now (store .entry)) (now (store .exit)) (now (output .entry)) (now (output .exit)) r ⌝ }
+    requires { ⌜ Ready (now registry) (now store) t × (length (now random) ≡ codeRandom) × (leastOutput ≤ length (now output)) ⌝ }
+    ensures { λ r. ⌜ Serves
+        (serveAuthorization (now (query .entry)) decision farm (clientsOf (now (registry .entry))) t
+        (decode (now (store .entry)) .slots) (now (random .entry)))
+        (decode (now (store .entry))) (decode (now (store .exit))) (now (output .entry)) (now (output .exit)) r ⌝ }
 {
     match authorization_query::read_query(query, decision, farm, registry) {
         QueryReading::ErrorPage(cause) => AuthorizationAnswer {
@@ -111,16 +108,16 @@ pub fn authorize(
     random: &[u8],
     output: &mut [u8],
 ) -> AuthorizationAnswer
-    ensures { λ r. ⌜ record { answer = r; output = now (output .exit); store = now (store .exit) } ≡ authorizationOutcome (now (query .entry)) decision farm (now (registry .entry)) (now (store .entry)) clock (now (random .entry)) (now (output .entry)) ⌝ }
+    ensures { λ r. ⌜ record { answer = r; output = now (output .exit); store = now (store .exit) }
+        ≡ authorizationOutcome (now (query .entry)) decision farm (now (registry .entry)) (now (store .entry))
+        (record { clock = clock; random = now (random .entry); output = now (output .entry) }) ⌝ }
 {
-    let fits = (LEAST_OUTPUT <= output.len()) & (random.len() == HANDLE_SIZE);
-    let admitted = admission::admit(fits, registry, store, clock);
-    if let Decision::Refuse(refusal) = admitted {
-        return AuthorizationAnswer {
+    let unfit = admission::unfit_buffers(CODE_RANDOM, random, output);
+    match admission::enter(unfit, registry, store, clock) {
+        Admission::Refused(refusal) => AuthorizationAnswer {
             decision: Decision::Refuse(refusal),
             length: 0,
-        };
+        },
+        Admission::At(t) => serve(query, decision, farm, registry, store, t, random, output),
     }
-    let t = admission::begin(store, clock);
-    serve(query, decision, farm, registry, store, t, random, output)
 }

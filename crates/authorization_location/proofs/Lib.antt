@@ -1,2 +1,2 @@
--- Laws of the location.
-pub mod Location
+-- Laws of the parts of a location.
+pub mod Parts

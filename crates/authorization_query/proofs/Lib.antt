@@ -1,3 +1,2 @@
--- Laws of reading a query.
-pub mod Names
-pub mod Reading
+-- Laws of the reasons to refuse a query, and of what reading it answers.
+pub mod Reasons

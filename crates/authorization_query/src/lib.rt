@@ -8,21 +8,18 @@ use client_registry::FoundClient;
 use form::Outcome;
 use form::PLACES;
 use form::Place;
+use protocol::CodeRequest;
 use protocol::ErrorWord;
 use protocol::PageCause;
-use request_values::MOST_FORM;
+use protocol::Refusal;
+use protocol::Request;
+use protocol::limits::MOST_FORM;
 ghost use mathlib.Core.Path.{_≡_};
-ghost use mathlib.Core.Bool.{true, not, _&&_};
-ghost use Prim.Native.Nat.{_≤_};
-ghost use lib.ListN.{length};
-ghost use Rattle.form.specs.Places.{viewOf, Within};
-ghost use Rattle.client_registry.specs.Registry.{fitRegistry};
-ghost use Rattle.protocol.specs.Requests.{isMissing, isOnce};
-ghost use Rattle.protocol.specs.Authorization.{isBadState, isInvalidRequest};
-ghost use Rattle.authorization_query.specs.Reading.{IsRead, askOf, readQuery};
-
-// The most bytes of a query that is read.
-const MOST_QUERY: usize = 4096;
+ghost use mathlib.Core.Bool.{true};
+ghost use Rattle.client_registry.specs.Registry.{clientsOf, fitRegistry};
+ghost use Rattle.client_registry.specs.Lookup.{clientAt, IsEntry};
+ghost use Rattle.protocol.specs.Authorization.{isBadRedirect, isInvalidRequest};
+ghost use Rattle.authorization_query.specs.Reading.{IsRead, Named, askedOf, Reads};
 
 // Where the known names have their places, in the order in which `read_query` gives them to the form's reader.
 const RESPONSE_TYPE: usize = 0;
@@ -35,18 +32,12 @@ const SCOPE: usize = 3;
 
 const STATE: usize = 4;
 
-// What a query asks, once its client is known: nothing but an error that the client is told, or a code.
-pub enum Asked {
-    Error(ErrorWord),
-    Code { farm: u32, scope: u8, bound: bool },
-}
-
 // The query of a known client, whose redirect address may be used: the client, where the state stands in the query, and
-// what is asked.
+// what is asked, which may be a refusal that the client is told.
 pub struct ClientQuery {
     pub client: Entry,
     pub state: Place,
-    pub asked: Asked,
+    pub request: Request,
 }
 
 // What reading a query comes to.
@@ -55,15 +46,14 @@ pub enum QueryReading {
     FromClient(ClientQuery),
 }
 
-// Whether the state was repeated, is too long or has bytes that are not sent back. One that is missing is no fault.
-fn is_bad_state(query: &[u8], state: Place) -> bool
-    requires { ⌜ Within (now query) state × (length (now query) ≤ 4096) ⌝ }
-    ensures { λ r. ⌜ r ≡ isBadState (viewOf (now (query .entry)) state) ⌝ }
+// Whether a redirect address came that is not the registered one.
+fn is_bad_redirect(query: &[u8], places: [Place; PLACES], registry: &[u8], client: Entry) -> bool
+    requires { ⌜ (fitRegistry (now registry) ≡ true) × IsEntry (now registry) client × IsRead (now query) places ⌝ }
+    ensures { λ r. ⌜ r ≡ isBadRedirect (clientAt (clientsOf (now (registry .entry))) (client .number)) (now (query .entry)) ⌝ }
 {
-    let mut buffer = [0u8; MOST_FORM];
-    let n = form_values::value_into(query, state, &mut buffer);
-    let sound = authorization_location::is_sound_state(&buffer[..n]);
-    form_values::is_repeated(query, state) | !sound
+    let redirect = places[REDIRECT_URI];
+    let registered = client_registry::redirect(registry, client);
+    !form::is_missing(query, redirect) & !form::is_once(query, redirect, registered)
 }
 
 // Whether response_type is missing, it, scope or state is repeated, or the state is none that is sent back.
@@ -74,46 +64,47 @@ fn is_invalid_request(query: &[u8], places: [Place; PLACES]) -> bool
     let kind = places[RESPONSE_TYPE];
     let scope = places[SCOPE];
     let state = places[STATE];
-    form_values::is_missing(query, kind)
-        | form_values::is_repeated(query, kind)
-        | form_values::is_repeated(query, scope)
-        | is_bad_state(query, state)
+    form::is_missing(query, kind)
+        | form::is_repeated(query, kind)
+        | form::is_repeated(query, scope)
+        | parameters::is_bad_state(query, state)
 }
 
-// What the query of a known client asks; `held` is the client's scope set. The decision 1 allows, any other denies.
-fn ask(query: &[u8], places: [Place; PLACES], held: u8, decision: u64, farm: u32) -> Asked
-    requires { ⌜ IsRead (now query) places ⌝ }
-    ensures { λ r. ⌜ r ≡ askOf held (now (query .entry)) decision farm ⌝ }
+// What the query of a known client asks. The decision 1 allows, any other denies.
+fn ask(
+    query: &[u8],
+    places: [Place; PLACES],
+    registry: &[u8],
+    client: Entry,
+    decision: u64,
+    farm: u32,
+) -> Request
+    requires { ⌜ (fitRegistry (now registry) ≡ true) × Named (now registry) (now query) client × IsRead (now query) places ⌝ }
+    ensures { λ r. ⌜ r ≡ askedOf (clientsOf (now (registry .entry))) (now (query .entry)) decision farm ⌝ }
 {
     if is_invalid_request(query, places) {
-        return Asked::Error(ErrorWord::InvalidRequest);
+        return Request::Refused(Refusal::Redirect(ErrorWord::InvalidRequest));
     }
     let kind = places[RESPONSE_TYPE];
-    if !form_values::is_once(query, kind, b"code") {
-        return Asked::Error(ErrorWord::UnsupportedResponseType);
+    if !form::is_once(query, kind, b"code") {
+        return Request::Refused(Refusal::Redirect(ErrorWord::UnsupportedResponseType));
     }
     let scope = places[SCOPE];
-    let asked = request_values::scope_asked(query, scope);
-    if !granting::scope_fits(asked, held) {
-        return Asked::Error(ErrorWord::InvalidScope);
+    let asked = parameters::scope_asked(query, scope);
+    let held = client_registry::scope_set(registry, client);
+    if !parameters::scope_fits(asked, held) {
+        return Request::Refused(Refusal::Redirect(ErrorWord::InvalidScope));
     }
     if decision != 1 {
-        return Asked::Error(ErrorWord::AccessDenied);
+        return Request::Refused(Refusal::Redirect(ErrorWord::AccessDenied));
     }
     let redirect = places[REDIRECT_URI];
-    Asked::Code {
+    Request::Code(CodeRequest {
+        client: client.number,
         farm,
-        scope: granting::scope_given(asked, held),
-        bound: !form_values::is_missing(query, redirect),
-    }
-}
-
-// Whether a redirect address came that is not the registered one.
-fn is_other_redirect(query: &[u8], redirect: Place, registered: &[u8]) -> bool
-    requires { ⌜ Within (now query) redirect ⌝ }
-    ensures { λ r. ⌜ r ≡ (not (isMissing (viewOf (now (query .entry)) redirect)) && not (isOnce (now (registered .entry)) (viewOf (now (query .entry)) redirect))) ⌝ }
-{
-    !form_values::is_missing(query, redirect) & !form_values::is_once(query, redirect, registered)
+        scope: parameters::scope_given(asked, held),
+        bound: !form::is_missing(query, redirect),
+    })
 }
 
 // Reads a query by the places of its names.
@@ -125,35 +116,34 @@ fn read_places(
     registry: &[u8],
 ) -> QueryReading
     requires { ⌜ (fitRegistry (now registry) ≡ true) × IsRead (now query) places ⌝ }
-    ensures { λ r. ⌜ r ≡ readQuery (now (registry .entry)) (now (query .entry)) decision farm ⌝ }
+    ensures { λ r. ⌜ Reads (now (registry .entry)) (now (query .entry)) decision farm r ⌝ }
 {
     let id = places[CLIENT_ID];
-    let FoundClient::At(client) = request_values::client_named(registry, query, id) else {
+    let FoundClient::At(client) = parameters::client_named(registry, query, id) else {
         return QueryReading::ErrorPage(PageCause::Client);
     };
     let redirect = places[REDIRECT_URI];
-    if form_values::is_repeated(query, redirect) {
+    if form::is_repeated(query, redirect) {
         return QueryReading::ErrorPage(PageCause::Client);
     }
-    if is_other_redirect(query, redirect, client_registry::redirect(registry, client)) {
+    if is_bad_redirect(query, places, registry, client) {
         return QueryReading::ErrorPage(PageCause::RedirectUri);
     }
-    let held = client_registry::scope_set(registry, client);
-    let asked = ask(query, places, held, decision, farm);
+    let request = ask(query, places, registry, client, decision, farm);
     let state = places[STATE];
     QueryReading::FromClient(ClientQuery {
         client,
         state,
-        asked,
+        request,
     })
 }
 
 // Reads a query.
 pub fn read_query(query: &[u8], decision: u64, farm: u32, registry: &[u8]) -> QueryReading
     requires { ⌜ fitRegistry (now registry) ≡ true ⌝ }
-    ensures { λ r. ⌜ r ≡ readQuery (now (registry .entry)) (now (query .entry)) decision farm ⌝ }
+    ensures { λ r. ⌜ Reads (now (registry .entry)) (now (query .entry)) decision farm r ⌝ }
 {
-    if MOST_QUERY < query.len() {
+    if MOST_FORM < query.len() {
         return QueryReading::ErrorPage(PageCause::Query);
     }
     let form = form::read(query, b"response_type&client_id&redirect_uri&scope&state");

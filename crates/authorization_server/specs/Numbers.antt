@@ -1,7 +1,6 @@
--- The numbers of an answer, case by case. Numbers that a case leaves free are 0.
+-- The numbers of an answer, case by case, and an outcome with its answer in numbers. Numbers that a case leaves free are 0.
 use Prim.Native.Nat.{ℕ}
-use mathlib.Core.Bool.{Bool, cond}
-use Rattle.token_store.specs.Search.{bit}
+use Rattle.octets.specs.Search.{bit}
 use Rattle.protocol.specs.declared.Decision.{Decision}
 use Rattle.protocol.specs.declared.Decision.the-variants.{Grant, Refuse}
 use Rattle.protocol.specs.declared.AuthorizationAnswer.{AuthorizationAnswer}
@@ -10,6 +9,7 @@ use Rattle.protocol.specs.declared.LiveToken.{LiveToken}
 use Rattle.protocol.specs.declared.CheckAnswer.{CheckAnswer}
 use Rattle.protocol.specs.declared.CheckAnswer.the-variants.{Refused, NotLive, Live}
 use Rattle.protocol.specs.Answers.{refusalNumber, errorNumber, statusOf}
+use Rattle.protocol.specs.Outcomes.{Outcome}
 use Rattle.authorization_server.specs.declared.AuthorizationReply.{AuthorizationReply}
 use Rattle.authorization_server.specs.declared.TokenReply.{TokenReply}
 use Rattle.authorization_server.specs.declared.CheckReply.{CheckReply}
@@ -42,3 +42,7 @@ abbrev pub checkReply : CheckAnswer → CheckReply
 checkReply (Refused r) = record { refusal = refusalNumber r; live = 0; client = 0; farm = 0; scope = 0; secondsleft = 0 }
 checkReply NotLive = record { refusal = 0; live = 0; client = 0; farm = 0; scope = 0; secondsleft = 0 }
 checkReply (Live l) = liveReply l
+
+-- an outcome, its answer in numbers
+abbrev pub inNumbers : {Answer Reply : Type 0} → (Answer → Reply) → Outcome Answer → Outcome Reply
+inNumbers reply o = record { answer = reply (o .answer); output = o .output; store = o .store }

@@ -5,8 +5,9 @@
 mod numbers;
 
 ghost use mathlib.Core.Path.{_≡_};
+ghost use mathlib.Core.List.{[]};
 ghost use Rattle.protocol.specs.Outcomes.{authorizationOutcome, tokenOutcome, checkOutcome};
-ghost use Rattle.authorization_server.specs.Numbers.{authorizationReply, tokenReply, checkReply};
+ghost use Rattle.authorization_server.specs.Numbers.{authorizationReply, tokenReply, checkReply, inNumbers};
 
 // What the authorization endpoint answers, in numbers. `refusal` is 0 or 1 to 7, `error` the number of an error word or 0,
 // `length` how many bytes of location were written.
@@ -51,9 +52,10 @@ pub extern "C" fn poplarchime_authorize(
     random: &[u8],
     output: &mut [u8],
 ) -> AuthorizationReply
-    ensures answer { λ r. ⌜ r ≡ authorizationReply (authorizationOutcome (now (query .entry)) decision farm (now (registry .entry)) (now (store .entry)) clock (now (random .entry)) (now (output .entry)) .answer) ⌝ }
-    ensures output { λ _. ⌜ now (output .exit) ≡ authorizationOutcome (now (query .entry)) decision farm (now (registry .entry)) (now (store .entry)) clock (now (random .entry)) (now (output .entry)) .output ⌝ }
-    ensures store { λ _. ⌜ now (store .exit) ≡ authorizationOutcome (now (query .entry)) decision farm (now (registry .entry)) (now (store .entry)) clock (now (random .entry)) (now (output .entry)) .store ⌝ }
+    ensures { λ r. ⌜ record { answer = r; output = now (output .exit); store = now (store .exit) }
+        ≡ inNumbers authorizationReply
+        (authorizationOutcome (now (query .entry)) decision farm (now (registry .entry)) (now (store .entry))
+        (record { clock = clock; random = now (random .entry); output = now (output .entry) })) ⌝ }
 {
     numbers::authorization_reply(authorization_endpoint::authorize(
         query,
@@ -78,9 +80,10 @@ pub extern "C" fn poplarchime_token(
     random: &[u8],
     output: &mut [u8],
 ) -> TokenReply
-    ensures answer { λ r. ⌜ r ≡ tokenReply (tokenOutcome (now (header .entry)) (now (body .entry)) (now (registry .entry)) (now (store .entry)) clock (now (random .entry)) (now (output .entry)) .answer) ⌝ }
-    ensures output { λ _. ⌜ now (output .exit) ≡ tokenOutcome (now (header .entry)) (now (body .entry)) (now (registry .entry)) (now (store .entry)) clock (now (random .entry)) (now (output .entry)) .output ⌝ }
-    ensures store { λ _. ⌜ now (store .exit) ≡ tokenOutcome (now (header .entry)) (now (body .entry)) (now (registry .entry)) (now (store .entry)) clock (now (random .entry)) (now (output .entry)) .store ⌝ }
+    ensures { λ r. ⌜ record { answer = r; output = now (output .exit); store = now (store .exit) }
+        ≡ inNumbers tokenReply
+        (tokenOutcome (now (header .entry)) (now (body .entry)) (now (registry .entry)) (now (store .entry))
+        (record { clock = clock; random = now (random .entry); output = now (output .entry) })) ⌝ }
 {
     numbers::token_reply(token_endpoint::token(
         header,
@@ -101,8 +104,8 @@ pub extern "C" fn poplarchime_check(
     store: &mut [u8],
     clock: u64,
 ) -> CheckReply
-    ensures answer { λ r. ⌜ r ≡ checkReply (checkOutcome (now (token .entry)) (now (registry .entry)) (now (store .entry)) clock .answer) ⌝ }
-    ensures store { λ r. ⌜ now (store .exit) ≡ checkOutcome (now (token .entry)) (now (registry .entry)) (now (store .entry)) clock .store ⌝ }
+    ensures { λ r. ⌜ record { answer = r; output = []; store = now (store .exit) }
+        ≡ inNumbers checkReply (checkOutcome (now (token .entry)) (now (registry .entry)) (now (store .entry)) clock) ⌝ }
 {
     numbers::check_reply(token_check::check(token, registry, store, clock))
 }

@@ -5,7 +5,6 @@ use crate::TokenReply;
 use protocol::AuthorizationAnswer;
 use protocol::CheckAnswer;
 use protocol::Decision;
-use protocol::ErrorWord;
 use protocol::Failure;
 use protocol::Input;
 use protocol::LiveToken;
@@ -13,40 +12,8 @@ use protocol::PageCause;
 use protocol::Refusal;
 use protocol::TokenAnswer;
 ghost use mathlib.Core.Path.{_≡_};
-ghost use Rattle.protocol.specs.Answers.{wordNumber, wordStatus, inputNumber, pageNumber, refusalNumber, errorNumber, failureStatus, refusalStatus, statusOf};
+ghost use Rattle.protocol.specs.Answers.{inputNumber, pageNumber, refusalNumber, errorNumber, failureStatus, refusalStatus, statusOf};
 ghost use Rattle.authorization_server.specs.Numbers.{decisionNumber, decisionError, authorizationReply, tokenReply, liveReply, checkReply};
-
-fn word_number(w: ErrorWord) -> u32
-    ensures { λ r. ⌜ r ≡ wordNumber w ⌝ }
-{
-    match w {
-        ErrorWord::InvalidRequest => 1,
-        ErrorWord::InvalidClient => 2,
-        ErrorWord::InvalidGrant => 3,
-        ErrorWord::InvalidScope => 4,
-        ErrorWord::UnsupportedGrantType => 5,
-        ErrorWord::UnsupportedResponseType => 6,
-        ErrorWord::AccessDenied => 7,
-        ErrorWord::TemporarilyUnavailable => 8,
-        ErrorWord::ServerError => 9,
-    }
-}
-
-fn word_status(w: ErrorWord) -> u32
-    ensures { λ r. ⌜ r ≡ wordStatus w ⌝ }
-{
-    match w {
-        ErrorWord::InvalidClient => 401,
-        ErrorWord::InvalidRequest => 400,
-        ErrorWord::InvalidGrant => 400,
-        ErrorWord::InvalidScope => 400,
-        ErrorWord::UnsupportedGrantType => 400,
-        ErrorWord::UnsupportedResponseType => 400,
-        ErrorWord::AccessDenied => 400,
-        ErrorWord::TemporarilyUnavailable => 400,
-        ErrorWord::ServerError => 400,
-    }
-}
 
 fn input_number(i: Input) -> u32
     ensures { λ r. ⌜ r ≡ inputNumber i ⌝ }
@@ -96,8 +63,8 @@ fn error_number(x: Refusal) -> u32
     match x {
         Refusal::Unfit(_) => 0,
         Refusal::ErrorPage(_) => 0,
-        Refusal::Redirect(w) => word_number(w),
-        Refusal::Token(w) => word_number(w),
+        Refusal::Redirect(w) => error_words::number(w),
+        Refusal::Token(w) => error_words::number(w),
         Refusal::Failed(_) => 0,
     }
 }
@@ -109,7 +76,7 @@ fn refusal_status(x: Refusal) -> u32
         Refusal::Unfit(_) => 0,
         Refusal::ErrorPage(_) => 0,
         Refusal::Redirect(_) => 0,
-        Refusal::Token(w) => word_status(w),
+        Refusal::Token(w) => error_words::status(w),
         Refusal::Failed(f) => failure_status(f),
     }
 }

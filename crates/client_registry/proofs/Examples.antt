@@ -6,10 +6,11 @@ use mathlib.Core.List.{List, [], _∷_, _++_, map}
 use Prim.Native.Nat.{ℕ, zero, suc, _+_}
 use lib.ListN.{set}
 use Rattle.octets.specs.Lists.{every, same}
+use Rattle.octets.specs.Search.{indexWhere}
 use Rattle.octets.specs.Text.{bytes}
 use Rattle.client_registry.specs.Layout.{maxClients, atId, atRedirect, atScope, confidentialSize}
 use Rattle.client_registry.specs.Registry.{Client, soundText, soundId, soundRedirect, soundSecret, soundField, soundCommon, soundPublic, soundConfidential, soundRecord, recordSize, recordsBehind, soundRecords, clientsOf, distinct, fitRegistry, fitnessOf}
-use Rattle.client_registry.specs.Lookup.{numberOf, startOf, findClient}
+use Rattle.client_registry.specs.Lookup.{startOf, findClient}
 use Rattle.client_registry.specs.Sample.{recordOf, registryOf, sampleConfidential, samplePublic, sampleClients, sampleRegistry}
 use Rattle.client_registry.specs.declared.Fitness.{Fitness}
 use Rattle.client_registry.specs.declared.Fitness.the-variants.{Clients, Unfit}
@@ -55,5 +56,5 @@ sample-clients = refl
 
 sample-found : map (findClient sampleRegistry) (bytes "s6BhdRkqt3" ∷ bytes "barnapp" ∷ bytes "barnap" ∷ [] ∷ [])
     ≡ At (record { number = 0; start = 0 }) ∷ At (record { number = 1; start = confidentialSize }) ∷ Unknown ∷ Unknown ∷ []
-unfolding findClient numberOf startOf same recordsBehind recordSize sampleRegistry sampleClients samplePublic sampleConfidential registryOf recordOf
+unfolding findClient indexWhere startOf same recordsBehind recordSize sampleRegistry sampleClients samplePublic sampleConfidential registryOf recordOf
 sample-found = refl

@@ -3,7 +3,7 @@
 -- In order: what a scan of a field tests; what a sound field and a sound text give; a sound field is its text, its length
 -- in front and zeros behind, so that two fields are equal exactly where their texts are.
 --
--- Not here: a field of a record that lies in a longer list (`Records`); what a byte of a text is (`Bytes`).
+-- Not here: the fields of a record (`Records`).
 -- Assumes nothing.
 use mathlib.Core.Path.{_≡_, sym, ap, ap₂, _∙_}
 use mathlib.Core.Bool.{Bool, true, false, _&&_, and-true}
@@ -15,12 +15,11 @@ use lib.Dec.{leb}
 use lib.ListN.{length, take, getD, replicate}
 use lib.Seq.{take-append-seam}
 use Rattle.octets.specs.Lists.{part, every, isZero, inClass, same}
-use Rattle.octets.proofs.Booleans.{and-left, and-right}
-use Rattle.octets.proofs.Lists.{length-part, part-add}
+use Rattle.octets.proofs.Booleans.{and-three}
+use Rattle.octets.proofs.Lists.{every-zero, same-iff, length-part, part-add, part-to, part-one}
 use Rattle.client_registry.specs.Layout.{idRoom, redirectRoom, secretRoom}
 use Rattle.client_registry.specs.Registry.{soundText, soundId, soundRedirect, soundSecret, soundField, fieldText, fieldRest}
 use Rattle.client_registry.specs.Sample.{fieldOf}
-use Rattle.client_registry.proofs.Bytes.{part-to, part-one, zeros, same-iff}
 
 -- ---- what a scan of a field tests
 
@@ -43,7 +42,9 @@ text-within room low high except x n e h = rw (e, le-leb n room h) (ap (λ (q : 
 
 -- so the scan of a field with n bytes in use tests n, the bytes in use and the bytes behind them
 pub field-tests : (room low high except : ℕ) (r : List ℕ) (at n : ℕ) → at + 1 + room ≤ length r → n ≡ getD r at 0 → n ≤ room
-    → (leb 1 n && every (inClass low high except) (part r (at + 1) (at + 1 + n - (at + 1))) && every isZero (part r (at + 1 + n) (at + 1 + room - (at + 1 + n))))
+    → (leb 1 n
+    && every (inClass low high except) (part r (at + 1) (at + 1 + n - (at + 1)))
+    && every isZero (part r (at + 1 + n) (at + 1 + room - (at + 1 + n))))
     ≡ soundField (soundText room low high except) r at room
 field-tests room low high except r at n h e w =
     let d = getD r at 0 in
@@ -65,14 +66,8 @@ pub record Field (sound : List ℕ → Bool) (r : List ℕ) (at room : ℕ) : Ty
 pub sound-field : (sound : List ℕ → Bool) (r : List ℕ) (at room : ℕ) → soundField sound r at room ≡ true → Field sound r at room
 unfolding soundField
 sound-field sound r at room e =
-    let fits = leb (getD r at 0) room in
-    let text = sound (fieldText r at) in
-    let rest = every isZero (fieldRest r at room) in
-    record {
-      within = leb-true (getD r at 0) room (and-left fits text (and-left (fits && text) rest e));
-      text = and-right fits text (and-left (fits && text) rest e);
-      zeros = and-right (fits && text) rest e;
-    }
+    let h = and-three (leb (getD r at 0) room) (sound (fieldText r at)) (every isZero (fieldRest r at room)) e in
+    record { within = leb-true (getD r at 0) room (h .0); text = h .1; zeros = h .2 }
 
 pub record Text (room low high except : ℕ) (x : List ℕ) : Type 0 where
   pub least : 1 ≤ length x
@@ -82,14 +77,8 @@ pub record Text (room low high except : ℕ) (x : List ℕ) : Type 0 where
 pub sound-text : (room low high except : ℕ) (x : List ℕ) → soundText room low high except x ≡ true → Text room low high except x
 unfolding soundText
 sound-text room low high except x e =
-    let some = leb 1 (length x) in
-    let fits = leb (length x) room in
-    let class = every (inClass low high except) x in
-    record {
-      least = leb-true 1 (length x) (and-left some fits (and-left (some && fits) class e));
-      most = leb-true (length x) room (and-right some fits (and-left (some && fits) class e));
-      class = and-right (some && fits) class e;
-    }
+    let h = and-three (leb 1 (length x)) (leb (length x) room) (every (inClass low high except) x) e in
+    record { least = leb-true 1 (length x) (h .0); most = leb-true (length x) room (h .1); class = h .2 }
 
 -- the texts of a client
 pub id-text : (x : List ℕ) → soundId x ≡ true → Text idRoom 0x20 0x7E 0x3A x
@@ -113,7 +102,7 @@ field-whole sound r at room h f =
     let w : n ≤ room = f .within in
     let e : length (fieldText r at) ≡ n = length-part r (at + 1) n (omega arith) in
     let k : length (fieldRest r at room) ≡ room - n = length-part r (at + 1 + n) (room - n) (omega arith) in
-    let z : fieldRest r at room ≡ replicate (room - n) 0 = zeros (fieldRest r at room) (f .zeros) ∙ ap (λ (m : ℕ). replicate m 0) k in
+    let z : fieldRest r at room ≡ replicate (room - n) 0 = every-zero (fieldRest r at room) (f .zeros) ∙ ap (λ (m : ℕ). replicate m 0) k in
     let s : n + (room - n) ≡ room = omega arith in
     let p = ap (part r (at + 1)) (sym s) ∙ part-add r (at + 1) n (room - n) ∙ ap (λ (l : List ℕ). fieldText r at ++ l) z in
     part-add r at 1 room ∙ ap₂ (λ (a b : List ℕ). a ++ b) (part-one r at (omega arith)) p

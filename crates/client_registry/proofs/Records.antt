@@ -1,11 +1,11 @@
 -- Laws of a record, and of the records of a registry.
 --
 -- In order: the size of a record; what a scan of a record tests; what a sound record gives; the records from a position
--- on, one after the other; a sound record where it lies in the registry, and its parts.
+-- on, one after the other; a sound record where it lies in the registry; equal ids.
 --
 -- Not here: a field by itself (`Fields`); a walk over the records (`Walk`); what a fit registry gives (`Fit`, `Clients`).
 -- Assumes nothing.
-use mathlib.Core.Path.{_≡_, refl, sym, ap, ap₂, _∙_}
+use mathlib.Core.Path.{_≡_, refl, sym, ap, _∙_}
 use mathlib.Core.Bool.{Bool, true, false, cond, not, _&&_, _||_, and-true, and-false, or-false}
 use mathlib.Core.List.{List, [], _∷_}
 use mathlib.Core.Logic.{_⊎_, inl, inr, ⊎-elim}
@@ -17,12 +17,11 @@ use lib.Dec.{eqb, lit≤}
 use lib.ListN.{length, take, drop, getD, length-take, length-drop, drop-of-length-le}
 use lib.Seq.{drop-cons, drop-drop, getD-take, getD-drop}
 use Rattle.octets.specs.Lists.{part, Bytes, same}
-use Rattle.octets.proofs.Booleans.{and-left, and-right}
-use Rattle.octets.proofs.Lists.{nil-bytes, tail-bytes, take-bytes, part-part}
+use Rattle.octets.proofs.Booleans.{and-left, and-right, and-three}
+use Rattle.octets.proofs.Lists.{nil-bytes, tail-bytes, take-bytes}
 use Rattle.client_registry.specs.Layout.{publicKind, confidentialKind, idRoom, redirectRoom, secretRoom, atId, atRedirect, atScope, atSecret, publicSize, confidentialSize}
 use Rattle.client_registry.specs.Registry.{soundText, soundId, soundRedirect, soundSecret, soundField, fieldText, soundCommon, soundPublic, soundConfidential, soundRecord, recordSize, recordsBehind, records}
-use Rattle.client_registry.specs.Lookup.{recordAt}
-use Rattle.client_registry.proofs.Bytes.{part-to}
+use Rattle.client_registry.specs.Lookup.{recordAt, nextOf}
 use Rattle.client_registry.proofs.Fields.{Field, sound-field, same-field}
 
 -- ---- the size of a record
@@ -52,20 +51,10 @@ module _ (k : ℕ) where
 -- ---- what a scan of a record tests
 
 module _ (r : List ℕ) where
-  pub tests-id : soundField (soundText idRoom 0x20 0x7E 0x3A) r atId idRoom ≡ soundField soundId r atId idRoom
-  unfolding soundId
-  tests-id = refl
-
-  pub tests-redirect : soundField (soundText redirectRoom 0x21 0x7E 0x23) r atRedirect redirectRoom ≡ soundField soundRedirect r atRedirect redirectRoom
-  unfolding soundRedirect
-  tests-redirect = refl
-
-  pub tests-secret : soundField (soundText secretRoom 0x20 0x7E 0x00) r atSecret secretRoom ≡ soundField soundSecret r atSecret secretRoom
-  unfolding soundSecret
-  tests-secret = refl
-
-  pub tests-common : (soundField soundId r atId idRoom && soundField soundRedirect r atRedirect redirectRoom && not (eqb (getD r atScope 0) 0)) ≡ soundCommon r
-  unfolding soundCommon
+  pub tests-common : (soundField (soundText idRoom 0x20 0x7E 0x3A) r atId idRoom
+      && soundField (soundText redirectRoom 0x21 0x7E 0x23) r atRedirect redirectRoom
+      && not (eqb (getD r atScope 0) 0)) ≡ soundCommon r
+  unfolding soundCommon soundId soundRedirect
   tests-common = refl
 
   pub tests-public : length r ≡ publicSize → (eqb (getD r 0 0) publicKind && soundCommon r) ≡ soundRecord r
@@ -75,8 +64,9 @@ module _ (r : List ℕ) where
       rw (eq-eqb (length r) publicSize e, n, and-true, and-false, or-false)
 
   pub tests-confidential : length r ≡ confidentialSize
-      → (eqb (getD r 0 0) confidentialKind && soundCommon r && soundField soundSecret r atSecret secretRoom) ≡ soundRecord r
-  unfolding soundRecord soundPublic soundConfidential
+      → (eqb (getD r 0 0) confidentialKind && soundCommon r && soundField (soundText secretRoom 0x20 0x7E 0x00) r atSecret secretRoom)
+      ≡ soundRecord r
+  unfolding soundRecord soundPublic soundConfidential soundSecret
   tests-confidential e =
       let n : eqb (length r) publicSize ≡ false = ne-eqb (length r) publicSize (λ d. absurd (omega arith)) in
       rw (eq-eqb (length r) confidentialSize e, n, and-false, and-true)
@@ -96,13 +86,12 @@ pub record Common (r : List ℕ) : Type 0 where
 sound-common : (r : List ℕ) → soundCommon r ≡ true → Common r
 unfolding soundCommon
 sound-common r e =
-    let a = soundField soundId r atId idRoom in
-    let b = soundField soundRedirect r atRedirect redirectRoom in
     let s = eqb (getD r atScope 0) 0 in
+    let h = and-three (soundField soundId r atId idRoom) (soundField soundRedirect r atRedirect redirectRoom) (not s) e in
     record {
-      id = sound-field soundId r atId idRoom (and-left a b (and-left (a && b) (not s) e));
-      redirect = sound-field soundRedirect r atRedirect redirectRoom (and-right a b (and-left (a && b) (not s) e));
-      scope = eqb-false (getD r atScope 0) 0 (not-true s (and-right (a && b) (not s) e));
+      id = sound-field soundId r atId idRoom (h .0);
+      redirect = sound-field soundRedirect r atRedirect redirectRoom (h .1);
+      scope = eqb-false (getD r atScope 0) 0 (not-true s (h .2));
     }
 
 pub record Public (r : List ℕ) : Type 0 where
@@ -110,16 +99,11 @@ pub record Public (r : List ℕ) : Type 0 where
   pub size : length r ≡ publicSize
   pub common : Common r
 
-pub sound-public : (r : List ℕ) → soundPublic r ≡ true → Public r
+sound-public : (r : List ℕ) → soundPublic r ≡ true → Public r
 unfolding soundPublic
 sound-public r e =
-    let k = eqb (getD r 0 0) publicKind in
-    let n = eqb (length r) publicSize in
-    record {
-      kind = eqb-true (getD r 0 0) publicKind (and-left k n (and-left (k && n) (soundCommon r) e));
-      size = eqb-true (length r) publicSize (and-right k n (and-left (k && n) (soundCommon r) e));
-      common = sound-common r (and-right (k && n) (soundCommon r) e);
-    }
+    let h = and-three (eqb (getD r 0 0) publicKind) (eqb (length r) publicSize) (soundCommon r) e in
+    record { kind = eqb-true (getD r 0 0) publicKind (h .0); size = eqb-true (length r) publicSize (h .1); common = sound-common r (h .2) }
 
 pub record Confidential (r : List ℕ) : Type 0 where
   pub kind : getD r 0 0 ≡ confidentialKind
@@ -127,17 +111,17 @@ pub record Confidential (r : List ℕ) : Type 0 where
   pub common : Common r
   pub secret : Field soundSecret r atSecret secretRoom
 
-pub sound-confidential : (r : List ℕ) → soundConfidential r ≡ true → Confidential r
+sound-confidential : (r : List ℕ) → soundConfidential r ≡ true → Confidential r
 unfolding soundConfidential
 sound-confidential r e =
     let k = eqb (getD r 0 0) confidentialKind in
     let n = eqb (length r) confidentialSize in
     let s = soundField soundSecret r atSecret secretRoom in
-    let front = and-left (k && n && soundCommon r) s e in
+    let h = and-three k n (soundCommon r) (and-left (k && n && soundCommon r) s e) in
     record {
-      kind = eqb-true (getD r 0 0) confidentialKind (and-left k n (and-left (k && n) (soundCommon r) front));
-      size = eqb-true (length r) confidentialSize (and-right k n (and-left (k && n) (soundCommon r) front));
-      common = sound-common r (and-right (k && n) (soundCommon r) front);
+      kind = eqb-true (getD r 0 0) confidentialKind (h .0);
+      size = eqb-true (length r) confidentialSize (h .1);
+      common = sound-common r (h .2);
       secret = sound-field soundSecret r atSecret secretRoom (and-right (k && n && soundCommon r) s e);
     }
 
@@ -162,7 +146,7 @@ module _ (r : List ℕ) (sound : soundRecord r ≡ true) where
   sound-size =
       ⊎-elim
       (λ (p : Public r). p .size ∙ sym (size-public (getD r 0 0) (p .kind)))
-      (λ (c : Confidential r). c .size ∙ sym (size-confidential (getD r 0 0) (λ e. absurd (eqb-false confidentialKind publicKind refl (sym (c .kind) ∙ e))) (c .kind)))
+      (λ (c : Confidential r). c .size ∙ sym (size-confidential (getD r 0 0) (λ e. absurd (omega (arith, c .kind))) (c .kind)))
       (sound-kinds r sound)
 
 -- ---- the records from a position on
@@ -203,68 +187,23 @@ records-bytes (suc n) (k ∷ t) h i = records-bytes n t (tail-bytes k t h) i
 
 -- ---- a sound record where it lies
 
--- the field at k of the record at `at` is within the bytes, and reads the same there
-pub record Lies (b : List ℕ) (at k : ℕ) : Type 0 where
-  pub fits : at + k + 1 + getD b (at + k) 0 ≤ length b
-  pub text : fieldText b (at + k) ≡ fieldText (recordAt b at) k
-
 module _ (b : List ℕ) (at : ℕ) where
-  -- a byte of the record
-  pub record-byte : (k : ℕ) → k < recordSize (getD b at 0) → getD (recordAt b at) k 0 ≡ getD b (at + k) 0
-  record-byte k h = rw (getD-take, getD-drop)
-
-  pub record-kind : getD (recordAt b at) 0 0 ≡ getD b at 0
-  record-kind = record-byte 0 (size-least (getD b at 0)) ∙ rw add-zero
+  record-kind : getD (recordAt b at) 0 0 ≡ getD b at 0
+  record-kind = getD-take (recordSize (getD b at 0)) (drop at b) 0 0 (size-least (getD b at 0)) ∙ rw (getD-drop, add-zero)
 
   module _ (sound : soundRecord (recordAt b at) ≡ true) where
+    -- it is as long as its kind says, within the bytes
     pub size-here : length (recordAt b at) ≡ recordSize (getD b at 0)
     size-here = sound-size (recordAt b at) sound ∙ ap recordSize record-kind
 
-    -- it lies within the bytes
-    pub record-fits : at + recordSize (getD b at 0) ≤ length b
+    pub record-fits : nextOf b at ≤ length b
     record-fits =
         let n = recordSize (getD b at 0) in
         omega (arith, size-here, length-take n (drop at b), length-drop at b, size-least (getD b at 0))
 
-    pub record-least : publicSize ≤ recordSize (getD b at 0)
-    record-least = omega (arith, size-here, sound-least (recordAt b at) sound)
-
-    -- so there is room for the parts that every record has
-    pub record-room : at + publicSize ≤ length b
-    record-room = omega (arith, record-fits, record-least)
-
-    -- a field of it lies there too, and reads the same
-    field-lies : (test : List ℕ → Bool) (k room : ℕ) → Field test (recordAt b at) k room → k + 1 + room ≤ length (recordAt b at) → Lies b at k
-    field-lies test k room field within =
-        let n = getD (recordAt b at) k 0 in
-        let e : n ≡ getD b (at + k) 0 = record-byte k (omega (arith, size-here)) in
-        let p : at + (k + 1) ≡ at + k + 1 = omega arith in
-        record {
-          fits = omega (arith, size-here, record-fits, field .within);
-          text = sym (part-part b at (recordSize (getD b at 0)) (k + 1) n (omega (arith, size-here, field .within)) ∙ ap₂ (λ (i m : ℕ). part b i m) p e);
-        }
-
-    pub id-lies : Lies b at atId
-    id-lies = field-lies soundId atId idRoom (sound-parts (recordAt b at) sound .id) (omega (arith, sound-least (recordAt b at) sound))
-
-    pub redirect-lies : Lies b at atRedirect
-    redirect-lies = field-lies soundRedirect atRedirect redirectRoom (sound-parts (recordAt b at) sound .redirect) (omega (arith, sound-least (recordAt b at) sound))
-
-    pub secret-lies : Confidential (recordAt b at) → Lies b at atSecret
-    secret-lies c = field-lies soundSecret atSecret secretRoom (c .secret) (omega arith)
-
-    -- its id field, with the length, as it lies
-    id-whole : part b (at + atId) (at + atRedirect - (at + atId)) ≡ part (recordAt b at) atId (1 + idRoom)
-    id-whole =
-        part-to b (at + atId) (at + atRedirect) (1 + idRoom) (omega arith)
-        ∙ sym (part-part b at (recordSize (getD b at 0)) atId (1 + idRoom) (omega (arith, record-least)))
-
--- the id fields of two sound records, as they lie, are equal exactly where the ids are
-pub same-ids : (b : List ℕ) (at other : ℕ) → soundRecord (recordAt b at) ≡ true → soundRecord (recordAt b other) ≡ true
-    → same (part b (at + atId) (at + atRedirect - (at + atId))) (part b (other + atId) (other + atRedirect - (other + atId)))
-    ≡ same (fieldText (recordAt b at) atId) (fieldText (recordAt b other) atId)
-same-ids b at other h h′ =
-    let r = recordAt b at in
-    let s = recordAt b other in
-    ap₂ same (id-whole b at h) (id-whole b other h′)
-    ∙ same-field soundId r s atId atId idRoom (omega (arith, sound-least r h)) (omega (arith, sound-least s h′)) (sound-parts r h .id) (sound-parts s h′ .id)
+-- the id fields of two sound records are equal exactly where the ids are
+pub same-ids : (r s : List ℕ) → soundRecord r ≡ true → soundRecord s ≡ true
+    → same (part r atId (1 + idRoom)) (part s atId (1 + idRoom)) ≡ same (fieldText r atId) (fieldText s atId)
+same-ids r s h h′ =
+    same-field soundId r s atId atId idRoom (omega (arith, sound-least r h)) (omega (arith, sound-least s h′))
+    (sound-parts r h .id) (sound-parts s h′ .id)

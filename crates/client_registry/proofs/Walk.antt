@@ -6,29 +6,30 @@
 --
 -- Not here: what a fit registry gives (`Fit`, `Clients`).
 -- Assumes nothing.
-use mathlib.Core.Path.{_≡_, refl, sym, ap, ap₂, _∙_}
+use mathlib.Core.Path.{_≡_, refl, sym, ap, _∙_}
 use mathlib.Core.Bool.{Bool, true, false, _&&_}
 use mathlib.Core.List.{List, [], _∷_, map}
 use Prim.Native.Nat.{ℕ, zero, suc, _+_, _-_, _≤_, _<_}
 use native.Mathlib.Numerals.{add-one}
 use native.Mathlib.Omega.{arith}
 use borrow.Author.Tests.{le-leb, lt-leb, lt-ltb, le-ltb}
-use lib.ListN.{length, drop, getD, length-drop, length-map}
+use lib.ListN.{length, drop, getD, length-drop, length-map, List·getD-map}
 use lib.Seq.{drop-cons}
 use Rattle.octets.specs.Lists.{every, same}
 use Rattle.octets.proofs.Booleans.{and-left, and-right, and-false}
+use Rattle.octets.proofs.Searches.{scan-stop, scan-next}
 use Rattle.client_registry.specs.Layout.{maxClients}
 use Rattle.client_registry.specs.Registry.{Client, soundRecord, recordSize, records, soundRecords, clientOf, clientsOf, idsOf, differ, distinct, countIf}
-use Rattle.client_registry.specs.Lookup.{numberOf, startOf, recordAt, findClient}
+use Rattle.client_registry.specs.Lookup.{numberOf, noClient, clientAt, startOf, recordAt, nextOf, findClient}
 use Rattle.client_registry.specs.declared.Fitness.the-variants.{Clients, Unfit}
 use Rattle.client_registry.specs.declared.FoundClient.the-variants.{At, Unknown}
 use Rattle.client_registry.proofs.Records.{records-step, records-end, record-fits, size-here}
 
 -- ---- from one record to the next
 
--- the position past the record at `at`
-abbrev pub nextOf : List ℕ → ℕ → ℕ
-nextOf b at = at + recordSize (getD b at 0)
+-- the id of the record at a position
+abbrev pub idAt : List ℕ → ℕ → List ℕ
+idAt b at = clientOf (recordAt b at) .id
 
 -- the records from a position on are sound
 abbrev pub soundFrom : List ℕ → ℕ → Bool
@@ -50,17 +51,10 @@ module _ (b : List ℕ) (at : ℕ) (more : at < length b) where
   pub sound-rest : soundFrom b at ≡ true → soundFrom b (nextOf b at) ≡ true
   sound-rest e = and-right (soundRecord (recordAt b at)) (soundFrom b (nextOf b at)) (sym sound-step ∙ e)
 
-  -- a walk that judges them
-  pub sound-next : soundRecord (recordAt b at) ≡ true → soundFrom b at ≡ soundFrom b (nextOf b at)
-  sound-next e = sound-step ∙ ap (λ (p : Bool). p && soundFrom b (nextOf b at)) e
-
-  pub sound-stop : soundRecord (recordAt b at) ≡ false → soundFrom b at ≡ false
-  sound-stop e = sound-step ∙ ap (λ (p : Bool). p && soundFrom b (nextOf b at)) e
-
   pub length-step : length (records (drop at b)) ≡ suc (length (records (drop (nextOf b at) b)))
   length-step = ap length (records-step b at more)
 
-  pub ids-step : idsOf (drop at b) ≡ clientOf (recordAt b at) .id ∷ idsOf (drop (nextOf b at) b)
+  ids-step : idsOf (drop at b) ≡ idAt b at ∷ idsOf (drop (nextOf b at) b)
   ids-step = ap (λ (rs : List (List ℕ)). map (λ (c : Client). c .id) (map clientOf rs)) (records-step b at more)
 
 -- a record that is cut short is not sound
@@ -73,28 +67,24 @@ record-short b at h = by (soundRecord (recordAt b at)) refl
 
 -- ---- the ids of a walk
 
+-- no id from a position on is x
+abbrev pub newFrom : List ℕ → List ℕ → ℕ → Bool
+newFrom b x at = every (differ x) (idsOf (drop at b))
+
 module _ (b : List ℕ) (at : ℕ) where
-  -- no id from a position on is x
-  module _ (x : List ℕ) where
-    pub new-end : length b ≤ at → every (differ x) (idsOf (drop at b)) ≡ true
-    unfolding every
-    new-end h = rw (records-end b at h)
+  pub new-end : (x : List ℕ) → length b ≤ at → newFrom b x at ≡ true
+  unfolding every
+  new-end x h = rw (records-end b at h)
 
-    pub new-next : at < length b → same x (clientOf (recordAt b at) .id) ≡ false
-        → every (differ x) (idsOf (drop at b)) ≡ every (differ x) (idsOf (drop (nextOf b at) b))
-    unfolding every
-    new-next h e = ap (every (differ x)) (ids-step b at h) ∙ rw e
-
-    pub new-stop : at < length b → same x (clientOf (recordAt b at) .id) ≡ true → every (differ x) (idsOf (drop at b)) ≡ false
-    unfolding every
-    new-stop h e = ap (every (differ x)) (ids-step b at h) ∙ rw e
+  pub new-step : (x : List ℕ) → at < length b → newFrom b x at ≡ (differ x (idAt b at) && newFrom b x (nextOf b at))
+  unfolding every
+  new-step x h = ap (every (differ x)) (ids-step b at h)
 
   pub distinct-end : length b ≤ at → distinct (idsOf (drop at b)) ≡ true
   unfolding distinct
   distinct-end h = rw (records-end b at h)
 
-  pub distinct-step : at < length b
-      → distinct (idsOf (drop at b)) ≡ (every (differ (clientOf (recordAt b at) .id)) (idsOf (drop (nextOf b at) b)) && distinct (idsOf (drop (nextOf b at) b)))
+  pub distinct-step : at < length b → distinct (idsOf (drop at b)) ≡ (newFrom b (idAt b at) (nextOf b at) && distinct (idsOf (drop (nextOf b at) b)))
   unfolding distinct
   distinct-step h = ap distinct (ids-step b at h)
 
@@ -162,33 +152,32 @@ module _ (b : List ℕ) (at n : ℕ) (more : at < length b) (w : Walked b at n) 
         start = rw add-one (omega (arith, start-next n rs walked-below, size, w .start));
       }
 
-module _ (id : List ℕ) where
-  module _ (b : List ℕ) (at : ℕ) where
-    clients-step : at < length b → clientsOf (drop at b) ≡ clientOf (recordAt b at) ∷ clientsOf (drop (nextOf b at) b)
-    clients-step h = ap (map clientOf) (records-step b at h)
+-- ---- the search for an id: no client before n has it
 
-    pub number-here : at < length b → same (clientOf (recordAt b at) .id) id ≡ true → numberOf id (clientsOf (drop at b)) ≡ 0
-    unfolding numberOf
-    number-here h e = ap (numberOf id) (clients-step h) ∙ rw e
+module _ (id b : List ℕ) (at n : ℕ) (w : Walked b at n) (passed : n ≤ numberOf id (clientsOf b)) where
+  count : length (clientsOf b) ≡ length (records b)
+  count = length-map (records b) clientOf
 
-    pub number-past : at < length b → same (clientOf (recordAt b at) .id) id ≡ false
-        → numberOf id (clientsOf (drop at b)) ≡ suc (numberOf id (clientsOf (drop (nextOf b at) b)))
-    unfolding numberOf
-    number-past h e = ap (numberOf id) (clients-step h) ∙ rw e
+  pub found-end : length b ≤ at → Unknown ≡ findClient b id
+  unfolding findClient
+  found-end h =
+      let left = sym (length-drop n (records b)) ∙ ap length (sym (w .rest) ∙ records-end b at h) in
+      rw (le-ltb (numberOf id (clientsOf b)) (length (clientsOf b)) (omega (arith, left, count)))
 
-    pub number-end : length b ≤ at → numberOf id (clientsOf (drop at b)) ≡ 0
-    unfolding numberOf
-    number-end h = rw (records-end b at h)
+  module _ (more : at < length b) where
+    below : n < length (clientsOf b)
+    below = omega (arith, walked-below b at n more w, count)
 
-  module _ (b : List ℕ) where
-    pub found-here : (n at : ℕ) → n ≡ numberOf id (clientsOf b) → n < length (records b) → at ≡ startOf n (records b)
-        → At (record { number = n; start = at }) ≡ findClient b id
+    -- client n is that of the record there
+    here : (q : Bool) → same (idAt b at) id ≡ q → same (clientAt (clientsOf b) n .id) id ≡ q
+    here q e =
+        ap (λ (c : Client). same (c .id) id) (List·getD-map clientOf (records b) n [] ∙ ap clientOf (walked-record b at n more w)) ∙ e
+
+    pub found-here : same (idAt b at) id ≡ true → At (record { number = n; start = at }) ≡ findClient b id
     unfolding findClient
-    found-here n at e h s =
-        let known = lt-ltb (numberOf id (clientsOf b)) (length (clientsOf b)) (omega (arith, length-map (records b) clientOf)) in
-        rw known
-        (ap₂ (λ (k p : ℕ). At (record { number = k; start = p })) e (s ∙ ap (λ (k : ℕ). startOf k (records b)) e))
+    found-here e =
+        let k : numberOf id (clientsOf b) ≡ n = scan-stop (λ c. same (c .id) id) noClient (clientsOf b) n below passed (here true e) in
+        rw (k, lt-ltb n (length (clientsOf b)) below) (ap (λ (p : ℕ). At (record { number = n; start = p })) (w .start))
 
-    pub found-nowhere : length (records b) ≤ numberOf id (clientsOf b) → Unknown ≡ findClient b id
-    unfolding findClient
-    found-nowhere h = rw (le-ltb (numberOf id (clientsOf b)) (length (clientsOf b)) (omega (arith, length-map (records b) clientOf)))
+    pub found-later : same (idAt b at) id ≡ false → n + 1 ≤ numberOf id (clientsOf b)
+    found-later e = scan-next (λ c. same (c .id) id) noClient (clientsOf b) n below passed (here false e)

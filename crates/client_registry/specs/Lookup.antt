@@ -1,12 +1,14 @@
 -- Looking a client up by its id, and where its record lies.
-use Prim.Native.Nat.{ℕ, zero, suc, _+_, _<_}
+use Prim.Native.Nat.{ℕ, zero, suc, _+_, _≤_, _<_}
 use mathlib.Core.Path.{_≡_}
-use mathlib.Core.Bool.{Bool, false, cond}
+use mathlib.Core.Bool.{Bool, true, false, cond}
 use mathlib.Core.List.{List, [], _∷_}
 use lib.Dec.{ltb}
 use lib.ListN.{length, getD}
 use Rattle.octets.specs.Lists.{part, same}
-use Rattle.client_registry.specs.Registry.{Client, recordSize, records, clientsOf}
+use Rattle.octets.specs.Search.{indexWhere}
+use Rattle.client_registry.specs.Layout.{publicSize}
+use Rattle.client_registry.specs.Registry.{Client, soundRecord, recordSize, records, clientOf, clientsOf}
 use Rattle.client_registry.specs.declared.Entry.{Entry}
 use Rattle.client_registry.specs.declared.FoundClient.{FoundClient}
 use Rattle.client_registry.specs.declared.FoundClient.the-variants.{At, Unknown}
@@ -14,9 +16,8 @@ use Rattle.client_registry.specs.declared.FoundClient.the-variants.{At, 
 -- ---- by the clients
 
 -- the number of the client with this id: where there is none, the number of clients
-unfoldable pub numberOf : List ℕ → List Client → ℕ
-numberOf id [] = 0
-numberOf id (c ∷ cs) = cond (same (c .id) id) 0 (suc (numberOf id cs))
+abbrev pub numberOf : List ℕ → List Client → ℕ
+numberOf id cs = indexWhere (λ c. same (c .id) id) cs
 
 -- some client has this id
 abbrev pub isKnown : List ℕ → List Client → Bool
@@ -49,6 +50,16 @@ findClient b id = cond (isKnown id (clientsOf b)) (At (entryOf b (numberOf id (c
 -- the record that starts at `at`
 abbrev pub recordAt : List ℕ → ℕ → List ℕ
 recordAt b at = part b at (recordSize (getD b at 0))
+
+-- the bytes are the record of a client
+pub record IsRecordOf (c : Client) (r : List ℕ) : Type 0 where
+  pub client : clientOf r ≡ c
+  pub sound : soundRecord r ≡ true
+  pub least : publicSize ≤ length r
+
+-- where the record behind it starts
+abbrev pub nextOf : List ℕ → ℕ → ℕ
+nextOf b at = at + recordSize (getD b at 0)
 
 -- the entry is one of the registry's: the record that starts there is that of this number
 pub record IsEntry (b : List ℕ) (e : Entry) : Type 0 where

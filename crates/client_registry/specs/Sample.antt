@@ -1,3 +1,5 @@
+-- For examples alone.
+--
 -- The clients of document 01's "A visit, written out", and a registry of them.
 use Prim.Native.Nat.{ℕ, _-_}
 use mathlib.Core.Bool.{true, false, cond}

@@ -1,5 +1,5 @@
 // The numbers of specs/Layout.antt: no other file of src/ has one of them.
-pub const MAX_CLIENTS: usize = 64;
+pub const MAX_CLIENTS: u8 = 64;
 
 pub const PUBLIC_KIND: u8 = 1;
 

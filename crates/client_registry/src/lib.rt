@@ -7,21 +7,21 @@ ghost use mathlib.Core.Bool.{true};
 ghost use Prim.Native.Nat.{_+_, _<_, _≤_};
 ghost use lib.ListN.{length, drop, getD};
 ghost use Rattle.octets.specs.Lists.{every, same};
-ghost use Rattle.client_registry.specs.Layout.{idRoom, redirectRoom, secretRoom, atId, atRedirect, atSecret, publicSize, confidentialSize};
-ghost use Rattle.client_registry.specs.Registry.{soundText, soundId, soundRedirect, soundSecret, soundField, soundCommon, soundRecord, fieldText, recordSize, records, soundRecords, clientOf, clientsOf, idsOf, differ, distinct, fitRegistry, countIf, fitnessOf};
-ghost use Rattle.client_registry.specs.Lookup.{clientAt, recordAt, findClient, IsEntry};
+ghost use Rattle.client_registry.specs.Layout.{publicSize};
+ghost use Rattle.client_registry.specs.Registry.{soundText, soundField, soundCommon, soundRecord, fieldText, recordSize, records, soundRecords, clientOf, clientsOf, idsOf, differ, distinct, fitRegistry, countIf, fitnessOf};
+ghost use Rattle.client_registry.specs.Lookup.{clientAt, recordAt, nextOf, findClient, IsRecordOf, IsEntry};
 
-mod layout;
+pub mod layout;
 
-// Whether bytes are a client registry: how many clients it has, or that they are none.
+// Whether bytes are a client registry: how many clients it has, which fits a byte, or that they are none.
 pub enum Fitness {
-    Clients(usize),
+    Clients(u8),
     Unfit,
 }
 
 // A client of a registry: its number, and where its record starts.
 pub struct Entry {
-    pub number: usize,
+    pub number: u8,
     pub start: usize,
 }
 
@@ -82,44 +82,25 @@ fn record_size(kind: u8) -> usize
     1
 }
 
-fn id_is_sound(r: &[u8]) -> bool
-    requires { ⌜ publicSize ≤ length (now r) ⌝ }
-    ensures { λ ok. ⌜ ok ≡ soundField soundId (now (r .entry)) atId idRoom ⌝ }
-{
-    field_is_sound(r, layout::AT_ID, layout::ID_ROOM, 0x20, 0x7e, b':')
-}
-
-fn redirect_is_sound(r: &[u8]) -> bool
-    requires { ⌜ publicSize ≤ length (now r) ⌝ }
-    ensures { λ ok. ⌜ ok ≡ soundField soundRedirect (now (r .entry)) atRedirect redirectRoom ⌝ }
-{
-    field_is_sound(
-        r,
-        layout::AT_REDIRECT,
-        layout::REDIRECT_ROOM,
-        0x21,
-        0x7e,
-        b'#',
-    )
-}
-
-// No byte is excepted within the range: 0 is outside it.
-fn secret_is_sound(r: &[u8]) -> bool
-    requires { ⌜ confidentialSize ≤ length (now r) ⌝ }
-    ensures { λ ok. ⌜ ok ≡ soundField soundSecret (now (r .entry)) atSecret secretRoom ⌝ }
-{
-    field_is_sound(r, layout::AT_SECRET, layout::SECRET_ROOM, 0x20, 0x7e, 0)
-}
-
 // Whether the parts that every record has are sound: the id, the redirect and the scope set.
 fn common_is_sound(r: &[u8]) -> bool
     requires { ⌜ publicSize ≤ length (now r) ⌝ }
     ensures { λ ok. ⌜ ok ≡ soundCommon (now (r .entry)) ⌝ }
 {
-    id_is_sound(r) & redirect_is_sound(r) & (r[layout::AT_SCOPE] != 0)
+    field_is_sound(r, layout::AT_ID, layout::ID_ROOM, 0x20, 0x7e, b':')
+        & field_is_sound(
+            r,
+            layout::AT_REDIRECT,
+            layout::REDIRECT_ROOM,
+            0x21,
+            0x7e,
+            b'#',
+        )
+        & (r[layout::AT_SCOPE] != 0)
 }
 
-// Whether a record is sound: one of a kind, as long as its kind says, with sound parts.
+// Whether a record is sound: one of a kind, as long as its kind says, with sound parts. A secret's class excepts no
+// byte: 0 is outside its range.
 fn record_is_sound(r: &[u8]) -> bool
     ensures { λ ok. ⌜ ok ≡ soundRecord (now (r .entry)) ⌝ }
 {
@@ -127,7 +108,9 @@ fn record_is_sound(r: &[u8]) -> bool
         return (r[0] == layout::PUBLIC_KIND) & common_is_sound(r);
     }
     if r.len() == layout::CONFIDENTIAL_SIZE {
-        return (r[0] == layout::CONFIDENTIAL_KIND) & common_is_sound(r) & secret_is_sound(r);
+        return (r[0] == layout::CONFIDENTIAL_KIND)
+            & common_is_sound(r)
+            & field_is_sound(r, layout::AT_SECRET, layout::SECRET_ROOM, 0x20, 0x7e, 0);
     }
     false
 }
@@ -137,7 +120,7 @@ fn count_records(b: &[u8]) -> Fitness
     ensures { λ r. ⌜ r ≡ countIf (soundRecords (now (b .entry))) (now (b .entry)) ⌝ }
 {
     let mut at = 0;
-    let mut n = 0;
+    let mut n: u8 = 0;
     while at < b.len() {
         if n == layout::MAX_CLIENTS {
             return Fitness::Unfit;
@@ -159,6 +142,25 @@ fn count_records(b: &[u8]) -> Fitness
     Fitness::Clients(n)
 }
 
+// ---- the records of sound ones
+
+// Where the record behind the one at `at` starts.
+fn next_start(b: &[u8], at: usize) -> usize
+    requires { ⌜ soundRecord (recordAt (now b) at) ≡ true ⌝ }
+    ensures { λ r. ⌜ (r ≡ nextOf (now (b .entry)) at) × (at < r) × (r ≤ length (now (b .entry))) ⌝ }
+{
+    at + record_size(b[at])
+}
+
+// The record at `at`.
+fn record_at(b: &[u8], at: usize) -> &[u8]
+    requires { ⌜ soundRecord (recordAt (now b) at) ≡ true ⌝ }
+    ensures { λ r. ⌜ (now r ≡ recordAt (now (b .entry)) at) × (publicSize ≤ length (now r)) ⌝ }
+{
+    let end = next_start(b, at);
+    &b[at..end]
+}
+
 // ---- ids
 
 // Whether the records at two places have the same id. Their id fields are compared whole: equal fields, equal ids.
@@ -166,11 +168,11 @@ fn same_id(b: &[u8], at: usize, other: usize) -> bool
     requires { ⌜ (soundRecord (recordAt (now b) at) ≡ true) × (soundRecord (recordAt (now b) other) ≡ true) ⌝ }
     ensures { λ r. ⌜ r ≡ same (clientOf (recordAt (now (b .entry)) at) .id) (clientOf (recordAt (now (b .entry)) other) .id) ⌝ }
 {
-    let from = at + layout::AT_ID;
-    let to = at + layout::AT_REDIRECT;
-    let other_from = other + layout::AT_ID;
-    let other_to = other + layout::AT_REDIRECT;
-    octets::equal(&b[from..to], &b[other_from..other_to])
+    let from = layout::AT_ID;
+    let to = layout::AT_REDIRECT;
+    let one = record_at(b, at);
+    let two = record_at(b, other);
+    octets::equal(&one[from..to], &two[from..to])
 }
 
 // Whether no record from `from` on has the id of the record at `at`.
@@ -183,7 +185,7 @@ fn id_is_new(b: &[u8], at: usize, from: usize) -> bool
         if same_id(b, at, p) {
             return false;
         }
-        p = p + record_size(b[p]);
+        p = next_start(b, p);
     }
     true
 }
@@ -195,7 +197,7 @@ fn ids_are_distinct(b: &[u8]) -> bool
 {
     let mut place = 0;
     while place < b.len() {
-        let next = place + record_size(b[place]);
+        let next = next_start(b, place);
         if !id_is_new(b, place, next) {
             return false;
         }
@@ -224,7 +226,7 @@ fn has_id(b: &[u8], at: usize, id: &[u8]) -> bool
     requires { ⌜ soundRecord (recordAt (now b) at) ≡ true ⌝ }
     ensures { λ r. ⌜ r ≡ same (clientOf (recordAt (now (b .entry)) at) .id) (now (id .entry)) ⌝ }
 {
-    octets::equal(field_text(b, at + layout::AT_ID), id)
+    octets::equal(field_text(record_at(b, at), layout::AT_ID), id)
 }
 
 // The client with this id.
@@ -233,12 +235,12 @@ pub fn find(b: &[u8], id: &[u8]) -> FoundClient
     ensures { λ r. ⌜ r ≡ findClient (now (b .entry)) (now (id .entry)) ⌝ }
 {
     let mut start = 0;
-    let mut number = 0;
+    let mut number: u8 = 0;
     while start < b.len() {
         if has_id(b, start, id) {
             return FoundClient::At(Entry { number, start });
         }
-        start = start + record_size(b[start]);
+        start = next_start(b, start);
         number += 1;
     }
     FoundClient::Unknown
@@ -246,13 +248,21 @@ pub fn find(b: &[u8], id: &[u8]) -> FoundClient
 
 // ---- the parts of a client
 
+// A client's record.
+fn record_of(b: &[u8], e: Entry) -> &[u8]
+    requires { ⌜ (fitRegistry (now b) ≡ true) × IsEntry (now b) e ⌝ }
+    ensures { λ r. ⌜ IsRecordOf (clientAt (clientsOf (now (b .entry))) (e .number)) (now r) ⌝ }
+{
+    record_at(b, e.start)
+}
+
 // Whether a client has a secret.
 pub fn is_confidential(b: &[u8], e: Entry) -> bool
     requires { ⌜ (fitRegistry (now b) ≡ true) × IsEntry (now b) e ⌝ }
     ensures { λ r. ⌜ r ≡ clientAt (clientsOf (now (b .entry))) (e .number) .confidential ⌝ }
 {
-    let start = e.start;
-    b[start] == layout::CONFIDENTIAL_KIND
+    let r = record_of(b, e);
+    r[0] == layout::CONFIDENTIAL_KIND
 }
 
 // The address that a client has registered.
@@ -260,8 +270,7 @@ pub fn redirect(b: &[u8], e: Entry) -> &[u8]
     requires { ⌜ (fitRegistry (now b) ≡ true) × IsEntry (now b) e ⌝ }
     ensures { λ r. ⌜ now r ≡ clientAt (clientsOf (now (b .entry))) (e .number) .redirect ⌝ }
 {
-    let start = e.start;
-    field_text(b, start + layout::AT_REDIRECT)
+    field_text(record_of(b, e), layout::AT_REDIRECT)
 }
 
 // The number of a client's scope set.
@@ -269,8 +278,8 @@ pub fn scope_set(b: &[u8], e: Entry) -> u8
     requires { ⌜ (fitRegistry (now b) ≡ true) × IsEntry (now b) e ⌝ }
     ensures { λ r. ⌜ r ≡ clientAt (clientsOf (now (b .entry))) (e .number) .scope ⌝ }
 {
-    let start = e.start;
-    b[start + layout::AT_SCOPE]
+    let r = record_of(b, e);
+    r[layout::AT_SCOPE]
 }
 
 // A client's secret: no bytes for a public one.
@@ -278,25 +287,9 @@ pub fn secret(b: &[u8], e: Entry) -> &[u8]
     requires { ⌜ (fitRegistry (now b) ≡ true) × IsEntry (now b) e ⌝ }
     ensures { λ r. ⌜ now r ≡ clientAt (clientsOf (now (b .entry))) (e .number) .secret ⌝ }
 {
-    if !is_confidential(b, e) {
-        return &b[0..0];
+    let r = record_of(b, e);
+    if r[0] != layout::CONFIDENTIAL_KIND {
+        return &r[0..0];
     }
-    let start = e.start;
-    field_text(b, start + layout::AT_SECRET)
-}
-
-// Whether this is the address that a client has registered.
-pub fn redirect_equals(b: &[u8], e: Entry, presented: &[u8]) -> bool
-    requires { ⌜ (fitRegistry (now b) ≡ true) × IsEntry (now b) e ⌝ }
-    ensures { λ r. ⌜ r ≡ same (clientAt (clientsOf (now (b .entry))) (e .number) .redirect) (now (presented .entry)) ⌝ }
-{
-    octets::equal(redirect(b, e), presented)
-}
-
-// Whether this is a client's secret. Texts of one length are compared to their end, wherever they differ.
-pub fn secret_equals(b: &[u8], e: Entry, presented: &[u8]) -> bool
-    requires { ⌜ (fitRegistry (now b) ≡ true) × IsEntry (now b) e ⌝ }
-    ensures { λ r. ⌜ r ≡ same (clientAt (clientsOf (now (b .entry))) (e .number) .secret) (now (presented .entry)) ⌝ }
-{
-    octets::equal(secret(b, e), presented)
+    field_text(r, layout::AT_SECRET)
 }

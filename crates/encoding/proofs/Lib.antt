@@ -1,6 +1,4 @@
 -- Laws of the definitions in specs/.
-pub mod Booleans
-pub mod Stores
 pub mod Hex
 pub mod Base64Groups
 pub mod Base64

@@ -1,53 +1,56 @@
--- The table of error words: what stands in the row of each.
---
+-- The error words as texts: none is longer than the table's rows, and a row begins with its word.
 -- Assumes nothing.
-use Prim.Native.Nat.{ℕ, _-_, _*_, _≤_}
+use Prim.Native.Nat.{_-_, _≤_}
 use mathlib.Core.Path.{_≡_, refl}
-use mathlib.Core.List.{List, [], _∷_, _++_}
+use mathlib.Core.List.{List, [], _∷_, map}
 use lib.Dec.{lit≤}
-use lib.ListN.{length, getD}
-use Rattle.octets.specs.Text.{bytes}
-use Rattle.octets.specs.Lists.{part}
+use lib.ListN.{length, take, getD}
+use Rattle.octets.proofs.Lists.{padded-room, padded-text}
 use Rattle.protocol.specs.declared.ErrorWord.{ErrorWord}
 use Rattle.protocol.specs.declared.ErrorWord.the-variants.{InvalidRequest, InvalidClient, InvalidGrant, InvalidScope, UnsupportedGrantType, UnsupportedResponseType, AccessDenied, TemporarilyUnavailable, ServerError}
 use Rattle.protocol.specs.Answers.{wordText, wordNumber}
+use Rattle.error_words.specs.declared.Row.{Row}
+use Rattle.error_words.specs.Table.{rowOf}
 
--- the tables as the code has them: 25 bytes to each word, of which it fills as many as the table of lengths says
-abbrev pub words : List ℕ
-words =
-    bytes "invalid_request          "
-    ++ bytes "invalid_client           "
-    ++ bytes "invalid_grant            "
-    ++ bytes "invalid_scope            "
-    ++ bytes "unsupported_grant_type   "
-    ++ bytes "unsupported_response_type"
-    ++ bytes "access_denied            "
-    ++ bytes "temporarily_unavailable  "
-    ++ bytes "server_error             "
-
-abbrev pub lengths : List ℕ
-lengths = 15 ∷ 14 ∷ 13 ∷ 13 ∷ 22 ∷ 25 ∷ 13 ∷ 23 ∷ 12 ∷ []
-
--- the row of the word with number n
-pub record Row (n : ℕ) (w : ErrorWord) : Type 0 where
-  pub least : 1 ≤ n
-  pub most : n ≤ 9
-  pub count : getD lengths (n - 1) 0 ≡ length (wordText w)
-  pub short : length (wordText w) ≤ 25
-  pub text : part words ((n - 1) * 25) (length (wordText w)) ≡ wordText w
-
-pub row : (w : ErrorWord) → Row (wordNumber w) w
-unfolding wordText
-row InvalidRequest = record { least = lit≤ tt; most = lit≤ tt; count = refl; short = lit≤ tt; text = refl }
-row InvalidClient = record { least = lit≤ tt; most = lit≤ tt; count = refl; short = lit≤ tt; text = refl }
-row InvalidGrant = record { least = lit≤ tt; most = lit≤ tt; count = refl; short = lit≤ tt; text = refl }
-row InvalidScope = record { least = lit≤ tt; most = lit≤ tt; count = refl; short = lit≤ tt; text = refl }
-row UnsupportedGrantType = record { least = lit≤ tt; most = lit≤ tt; count = refl; short = lit≤ tt; text = refl }
-row UnsupportedResponseType = record { least = lit≤ tt; most = lit≤ tt; count = refl; short = lit≤ tt; text = refl }
-row AccessDenied = record { least = lit≤ tt; most = lit≤ tt; count = refl; short = lit≤ tt; text = refl }
-row TemporarilyUnavailable = record { least = lit≤ tt; most = lit≤ tt; count = refl; short = lit≤ tt; text = refl }
-row ServerError = record { least = lit≤ tt; most = lit≤ tt; count = refl; short = lit≤ tt; text = refl }
-
--- no word is longer than its row
 pub word-length : (w : ErrorWord) → length (wordText w) ≤ 25
-word-length w = row w .short
+unfolding wordText
+word-length InvalidRequest = lit≤ tt
+word-length InvalidClient = lit≤ tt
+word-length InvalidGrant = lit≤ tt
+word-length InvalidScope = lit≤ tt
+word-length UnsupportedGrantType = lit≤ tt
+word-length UnsupportedResponseType = lit≤ tt
+word-length AccessDenied = lit≤ tt
+word-length TemporarilyUnavailable = lit≤ tt
+word-length ServerError = lit≤ tt
+
+-- the words in the order of their numbers, and so the table
+abbrev inOrder : List ErrorWord
+inOrder =
+    InvalidRequest ∷ InvalidClient ∷ InvalidGrant ∷ InvalidScope ∷ UnsupportedGrantType ∷ UnsupportedResponseType ∷ AccessDenied
+    ∷ TemporarilyUnavailable ∷ ServerError ∷ []
+
+abbrev pub table : List Row
+table = map rowOf inOrder
+
+-- each word has its row there
+pub table-row : (w : ErrorWord) (d : Row) → (1 ≤ wordNumber w) × (wordNumber w ≤ 9) × (getD table (wordNumber w - 1) d ≡ rowOf w)
+table-row InvalidRequest d = (lit≤ tt, lit≤ tt, refl)
+table-row InvalidClient d = (lit≤ tt, lit≤ tt, refl)
+table-row InvalidGrant d = (lit≤ tt, lit≤ tt, refl)
+table-row InvalidScope d = (lit≤ tt, lit≤ tt, refl)
+table-row UnsupportedGrantType d = (lit≤ tt, lit≤ tt, refl)
+table-row UnsupportedResponseType d = (lit≤ tt, lit≤ tt, refl)
+table-row AccessDenied d = (lit≤ tt, lit≤ tt, refl)
+table-row TemporarilyUnavailable d = (lit≤ tt, lit≤ tt, refl)
+table-row ServerError d = (lit≤ tt, lit≤ tt, refl)
+
+-- the row of a word begins with it
+module _ (w : ErrorWord) {r : Row} (e : r ≡ rowOf w) where
+  pub row-room : r .1 ≤ length (r .2)
+  unfolding rowOf
+  row-room = rw e (padded-room 25 (wordText w))
+
+  pub row-text : take (r .1) (r .2) ≡ wordText w
+  unfolding rowOf
+  row-text = rw e (padded-text 25 (wordText w))

@@ -1,87 +1,85 @@
 -- Laws of `enter`, `enterAll` and `readOf`: how a piece is entered, and one turn of the reader after the other.
 --
 -- In order: a piece entered, by cases, and one place after it; all pieces that remain at a cursor, one less or none;
--- the answer, by cases; what each entry keeps, the reader keeps.
+-- what each entry keeps, the reader keeps.
 -- Assumes nothing.
 use Prim.Native.Nat.{ℕ, _+_, _-_, _<_, _≤_}
 use mathlib.Core.Path.{_≡_, refl, sym, _∙_}
 use mathlib.Core.List.{List, [], _∷_}
 use mathlib.Core.Bool.{Bool, true, false, cond, _&&_}
 use native.Mathlib.Omega.{arith}
-use borrow.Author.Tests.{lt-ltb, le-ltb, le-leb, lt-leb, leb-true, leb-false, eqb-true, eqb-false}
-use lib.Dec.{leb, ltb, eqb, leb·zero}
+use borrow.Author.Tests.{lt-ltb, le-ltb, ltb-false, eqb-true, eqb-false}
+use lib.Dec.{ltb, eqb, leb·zero}
 use lib.ListN.{getD, length, take, set, length-set}
-use lib.Seq.{getD-set-same, getD-set-other}
+use lib.Seq.{getD-set-same, getD-set-other, length-take-le}
 use Rattle.octets.specs.Lists.{part, indexOf}
 use Rattle.octets.proofs.Lists.{length-part}
-use Rattle.octets.proofs.Pieces.{remaining, remaining-end}
+use Rattle.octets.proofs.Pieces.{index-le, remaining, remaining-end}
 use Rattle.form_coding.specs.Coding.{decode}
 use Rattle.form.specs.declared.Span.{Span}
 use Rattle.form.specs.declared.Cursor.{Cursor}
 use Rattle.form.specs.declared.Place.{Place}
-use Rattle.form.specs.declared.Outcome.the-variants.{WellFormed, Malformed}
-use Rattle.form.specs.Content.{pieces, isWellFormedForm, nameOf}
-use Rattle.form.specs.Places.{placeCount, unseen, allUnseen, rank, seenAgain, enter, enterAll, placesOf, readOf}
-use Rattle.form.proofs.Joining.{piece-stands, piece-fits, piece-rest}
+use Rattle.form.specs.Content.{pieces, pieceName}
+use Rattle.form.specs.Places.{placeCount, unseen, allUnseen, rank, seenAgain, enter, enterAll, placesOf}
+use Rattle.form.proofs.Pieces.{First, first}
 use Rattle.form.proofs.Steps.{Told}
 
 -- ---- a piece, by cases
 
-module _ (names : List (List ℕ)) (ps : List Place) (at n : ℕ) (p : List ℕ) (e : n ≡ indexOf 61 p) where
-  pub enter-empty : length p ≤ n + 1 → enter names ps at p ≡ ps
+-- what entering a piece p that stands from `at` up to end, with its first = at n, comes to
+pub record Entered (names : List (List ℕ)) (ps : List Place) (at end n : ℕ) (p : List ℕ) : Type 0 where
+  pub within : at + n ≤ end
+  pub named : length (take n p) ≡ n
+  pub empty : length p ≤ n + 1 → enter names ps at p ≡ ps
+  pub unknown : n + 1 < length p → (k : ℕ) → k ≡ rank (decode (take n p)) names → placeCount ≤ k → enter names ps at p ≡ ps
+  pub known : n + 1 < length p → (k : ℕ) → k ≡ rank (decode (take n p)) names → k < placeCount
+      → enter names ps at p ≡ set ps k (seenAgain (getD ps k unseen) (at + n + 1) end)
+
+pub entered : (names : List (List ℕ)) (ps : List Place) (s : List ℕ) (at end n : ℕ) → (at ≤ end) × (end ≤ length s)
+    → n ≡ indexOf 61 (part s at (end - at)) → Entered names ps at end n (part s at (end - at))
+unfolding enter pieceName
+entered names ps s at end n (forward, fits) e = by (part s at (end - at)) (omega (arith, length-part s at (end - at) (omega arith))) e
+  where
+    by : (p : List ℕ) → at + length p ≡ end → n ≡ indexOf 61 p → Entered names ps at end n p
+    by p to-end e =
+        let l = index-le 61 p in
+        record {
+          within = omega arith;
+          named = length-take-le n p (omega arith);
+          empty = λ h. rw (← e, le-ltb (n + 1) (length p) h);
+          unknown = λ h k f g. rw (← e, lt-ltb (n + 1) (length p) h, ← f, le-ltb k placeCount g);
+          known = λ h k f g. rw (← e, lt-ltb (n + 1) (length p) h, ← f, lt-ltb k placeCount g, to-end);
+        }
+
+module _ (names : List (List ℕ)) (ps : List Place) (at : ℕ) (p : List ℕ) where
+  -- the name's rank, and the place i with the piece's value
+  abbrev j : ℕ
+  j = rank (pieceName p) names
+
+  abbrev again : ℕ → Place
+  again i = seenAgain (getD ps i unseen) (at + indexOf 61 p + 1) (at + length p)
+
+  pub length-enter : length (enter names ps at p) ≡ length ps
   unfolding enter
-  enter-empty h = rw (← e, le-leb (length p) (n + 1) h)
+  length-enter = by (ltb (indexOf 61 p + 1) (length p) && ltb j placeCount)
+    where
+      by : (b : Bool) → length (cond b (set ps j (again j)) ps) ≡ length ps
+      by true = length-set ps j (again j)
+      by false = refl
 
-  module _ (h : n + 1 < length p) (k : ℕ) (f : k ≡ rank (decode (take n p)) names) where
-    pub enter-unknown : placeCount ≤ k → enter names ps at p ≡ ps
-    unfolding enter nameOf
-    enter-unknown g = rw (← e, lt-leb (length p) (n + 1) h, ← f, le-leb placeCount k g)
-
-    pub enter-known : k < placeCount → (end : ℕ) → end ≡ at + length p → enter names ps at p ≡ set ps k (seenAgain (getD ps k unseen) (at + n + 1) end)
-    unfolding enter nameOf
-    enter-known g end l = rw (← e, lt-leb (length p) (n + 1) h, ← f, lt-leb placeCount k g, l)
-
-pub length-enter : (names : List (List ℕ)) (ps : List Place) (at : ℕ) (p : List ℕ) → length (enter names ps at p) ≡ length ps
-unfolding enter
-length-enter names ps at p = by (leb (length p) (indexOf 61 p + 1)) (leb placeCount k)
-  where
-    k : ℕ
-    k = rank (nameOf p) names
-
-    q : Place
-    q = seenAgain (getD ps k unseen) (at + indexOf 61 p + 1) (at + length p)
-
-    by : (x y : Bool) → length (cond x ps (cond y ps (set ps k q))) ≡ length ps
-    by true y = refl
-    by false true = refl
-    by false false = length-set ps k q
-
--- one place after a piece: it is seen again where the piece has a value and a name that ranks there
-pub enter-place : (names : List (List ℕ)) (ps : List Place) (at : ℕ) (p : List ℕ) (k : ℕ) → k < placeCount → length ps ≡ placeCount
-    → getD (enter names ps at p) k unseen
-    ≡ cond (ltb (indexOf 61 p + 1) (length p) && eqb (rank (nameOf p) names) k) (seenAgain (getD ps k unseen) (at + indexOf 61 p + 1) (at + length p)) (getD ps k unseen)
-unfolding enter
-enter-place names ps at p k hk hp = by (leb (length p) (n + 1)) refl (leb placeCount j) refl (eqb j k) refl
-  where
-    n : ℕ
-    n = indexOf 61 p
-
-    j : ℕ
-    j = rank (nameOf p) names
-
-    again : ℕ → Place
-    again i = seenAgain (getD ps i unseen) (at + n + 1) (at + length p)
-
-    by : (x : Bool) → leb (length p) (n + 1) ≡ x → (y : Bool) → leb placeCount j ≡ y → (z : Bool) → eqb j k ≡ z
-        → getD (cond x ps (cond y ps (set ps j (again j)))) k unseen ≡ cond (ltb (n + 1) (length p) && z) (again k) (getD ps k unseen)
-    by true e y f z g = rw (le-ltb (n + 1) (length p) (leb-true (length p) (n + 1) e))
-    by false e true f true g = let h = leb-true placeCount j f in let i = eqb-true j k g in absurd (omega arith)
-    by false e true f false g = rw (lt-ltb (n + 1) (length p) (leb-false (length p) (n + 1) e))
-    by false e false f true g =
-        let l : k < length ps = omega arith in
-        rw (lt-ltb (n + 1) (length p) (leb-false (length p) (n + 1) e), eqb-true j k g) (getD-set-same ps k (again k) unseen l)
-    by false e false f false g =
-        rw (lt-ltb (n + 1) (length p) (leb-false (length p) (n + 1) e)) (getD-set-other ps j k (again j) unseen (λ h. eqb-false j k g (sym h)))
+  -- one place after a piece: it is seen again where the piece has a value and a name that ranks there
+  pub enter-place : (k : ℕ) → k < placeCount → length ps ≡ placeCount
+      → getD (enter names ps at p) k unseen ≡ cond (ltb (indexOf 61 p + 1) (length p) && eqb j k) (again k) (getD ps k unseen)
+  unfolding enter
+  enter-place k hk hp = by (ltb (indexOf 61 p + 1) (length p)) (ltb j placeCount) refl (eqb j k) refl
+    where
+      by : (x y : Bool) → ltb j placeCount ≡ y → (z : Bool) → eqb j k ≡ z
+          → getD (cond (x && y) (set ps j (again j)) ps) k unseen ≡ cond (x && z) (again k) (getD ps k unseen)
+      by false y f z g = refl
+      by true true f true g = let l : k < length ps = omega arith in rw (eqb-true j k g) (getD-set-same ps k (again k) unseen l)
+      by true true f false g = getD-set-other ps j k (again j) unseen (λ h. eqb-false j k g (sym h))
+      by true false f true g = absurd (omega (arith, ltb-false j placeCount f, eqb-true j k g))
+      by true false f false g = refl
 
 -- ---- the pieces that remain
 
@@ -96,41 +94,30 @@ module _ (names : List (List ℕ)) (ps : List Place) (s : List ℕ) (at : ℕ) w
   enter-end h = rw (remaining-end 38 s at h)
 
   pub enter-step : (p : Span) (m : Cursor) → Told s at p m
-      → enterAll names (enter names ps (p .start) (part s (p .start) (p .end - p .start))) (m .at) (remaining 38 s (m .at)) ≡ enterAll names ps at (remaining 38 s at)
+      → enterAll names (enter names ps (p .start) (part s (p .start) (p .end - p .start))) (m .at) (remaining 38 s (m .at))
+      ≡ enterAll names ps at (remaining 38 s at)
   enter-step p m t =
       let l = length-part s (p .start) (p .end - p .start) (omega arith) in
       let next : at + length (part s (p .start) (p .end - p .start)) + 1 ≡ m .at = omega arith in
       rw (t .first, enter-cons, next, t .begins)
 
--- ---- the answer, by cases
-
-module _ (names s : List ℕ) where
-  pub read-malformed : isWellFormedForm s ≡ false → readOf names s ≡ record { outcome = Malformed; places = allUnseen }
-  unfolding readOf
-  read-malformed e = rw e
-
-  pub read-well-formed : isWellFormedForm s ≡ true → readOf names s ≡ record { outcome = WellFormed; places = placesOf names s }
-  unfolding readOf
-  read-well-formed e = rw e
-
 -- ---- what each entry keeps, of the places and the pieces still to come, the reader keeps
 
-module _ (names s : List ℕ) (P : List Place → List (List ℕ) → Type 0)
-    (keeps : (ps : List Place) (at : ℕ) (p : List ℕ) (rest : List (List ℕ)) → length ps ≡ placeCount → p ≡ part s at (length p)
-    → at + length p ≤ length s → P ps (p ∷ rest) → P (enter (pieces names) ps at p) rest) where
+module _ (names : List (List ℕ)) (s : List ℕ) (P : List Place → List (List ℕ) → Type 0)
+    (keeps : (ps : List Place) (at : ℕ) (p : List ℕ) (rest : List (List ℕ)) → length ps ≡ placeCount → First s at p rest
+    → P ps (p ∷ rest) → P (enter names ps at p) rest) where
   kept-from : (ts : List (List ℕ)) (ps : List Place) (at : ℕ) → remaining 38 s at ≡ ts → length ps ≡ placeCount → P ps ts
-      → P (enterAll (pieces names) ps at ts) []
+      → P (enterAll names ps at ts) []
   unfolding enterAll
   kept-from [] ps at e l h = h
   kept-from (p ∷ rest) ps at e l h =
-      kept-from rest (enter (pieces names) ps at p) (at + length p + 1) (piece-rest 38 s at p rest e) (length-enter (pieces names) ps at p ∙ l)
-      (keeps ps at p rest l (piece-stands 38 s at p rest e) (piece-fits 38 s at p rest e) h)
+      let f = first s at p rest e in
+      kept-from rest (enter names ps at p) (at + length p + 1) (f .more) (length-enter names ps at p ∙ l) (keeps ps at p rest l f h)
 
   pub kept : P allUnseen (pieces s) → P (placesOf names s) []
   unfolding placesOf allUnseen
   kept h = kept-from (pieces s) allUnseen 0 (rw leb·zero refl) refl h
 
-pub length-places : (names s : List ℕ) → length (placesOf names s) ≡ placeCount
+pub length-places : (names : List (List ℕ)) (s : List ℕ) → length (placesOf names s) ≡ placeCount
 unfolding allUnseen
-length-places names s =
-    kept names s (λ ps _. length ps ≡ placeCount) (λ ps at p _ l _ _ _. length-enter (pieces names) ps at p ∙ l) refl
+length-places names s = kept names s (λ ps _. length ps ≡ placeCount) (λ ps at p _ l _ _. length-enter names ps at p ∙ l) refl

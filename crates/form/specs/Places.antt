@@ -1,16 +1,19 @@
--- Where the reader finds the values of the known names: a list of seven places, in the order of the names.
+-- For contracts inside; the exports' contracts do not cite it.
 --
--- The known names are themselves a text with `&` between them, so that one reader serves every list of names:
--- `bytes "response_type&client_id&redirect_uri&scope&state"` for the authorization endpoint.
+-- Where the reader finds the values of the known names: a list of places, in the order of the names.
+--
+-- The code hands the reader the names as one text with `&` between them, so that one reader serves every list of names:
+-- `b"response_type&client_id&redirect_uri&scope&state"` for the authorization endpoint.
 use Prim.Native.Nat.{ℕ, suc, _+_, _-_, _<_, _≤_}
 use mathlib.Core.Path.{_≡_}
 use mathlib.Core.List.{List, [], _∷_}
-use mathlib.Core.Bool.{Bool, true, cond, _&&_}
-use lib.Dec.{leb, eqb}
+use mathlib.Core.Bool.{Bool, true, false, cond, not, _&&_}
+use lib.Dec.{leb, ltb}
 use lib.ListN.{getD, length, drop, set, replicate}
-use Rattle.octets.specs.Lists.{part, same, indexOf}
+use Rattle.octets.specs.Lists.{part, every, same, indexOf}
+use Rattle.octets.specs.Search.{any}
 use Rattle.form_coding.specs.Coding.{decode}
-use Rattle.form.specs.Content.{pieces, isWellFormedForm, nameOf, Value, missing, once, repeated, formValue}
+use Rattle.form.specs.Content.{pieces, isWellFormedForm, pieceName, Value, missing, once, repeated, formValue, isRepeated}
 use Rattle.form.specs.declared.Count.{Count}
 use Rattle.form.specs.declared.Count.the-variants.{Missing, Once, Repeated}
 use Rattle.form.specs.declared.Place.{Place}
@@ -19,7 +22,7 @@ use Rattle.form.specs.declared.Step.the-variants.{Piece, End}
 use Rattle.form.specs.declared.Outcome.the-variants.{WellFormed, Malformed}
 use Rattle.form.specs.declared.Form.{Form}
 
--- how many places there are
+-- how many places there are: as many as the longest list of names needs
 abbrev pub placeCount : ℕ
 placeCount = 7
 
@@ -49,8 +52,8 @@ seenAgain p a e = record { count = oneMore (p .count); start = a; end = e }
 unfoldable pub enter : List (List ℕ) → List Place → ℕ → List ℕ → List Place
 enter names ps at p =
     let n = indexOf 61 p in
-    let k = rank (nameOf p) names in
-    cond (leb (length p) (n + 1)) ps (cond (leb placeCount k) ps (set ps k (seenAgain (getD ps k unseen) (at + n + 1) (at + length p))))
+    let k = rank (pieceName p) names in
+    cond (ltb (n + 1) (length p) && ltb k placeCount) (set ps k (seenAgain (getD ps k unseen) (at + n + 1) (at + length p))) ps
 
 -- pieces that begin at `at`, one byte between each and the next
 unfoldable pub enterAll : List (List ℕ) → List Place → ℕ → List (List ℕ) → List Place
@@ -58,11 +61,11 @@ enterAll names ps at [] = ps
 enterAll names ps at (p ∷ rest) = enterAll names (enter names ps at p) (at + length p + 1) rest
 
 -- the places of a form
-unfoldable pub placesOf : List ℕ → List ℕ → List Place
-placesOf names s = enterAll (pieces names) allUnseen 0 (pieces s)
+unfoldable pub placesOf : List (List ℕ) → List ℕ → List Place
+placesOf names s = enterAll names allUnseen 0 (pieces s)
 
 -- what the reader answers for a list of names and a form
-unfoldable pub readOf : List ℕ → List ℕ → Form
+unfoldable pub readOf : List (List ℕ) → List ℕ → Form
 readOf names s =
     cond (isWellFormedForm s) (record { outcome = WellFormed; places = placesOf names s }) (record { outcome = Malformed; places = allUnseen })
 
@@ -83,22 +86,37 @@ viewAs v Repeated = repeated
 abbrev pub viewOf : List ℕ → Place → Value
 viewOf s p = viewAs (part s (p .start) (p .end - p .start)) (p .count)
 
--- the names ns stand in `all` at the places k, k + 1 and so on
-unfoldable pub ranksFrom : List (List ℕ) → ℕ → List (List ℕ) → Bool
-ranksFrom all k [] = true
-ranksFrom all k (n ∷ ns) = eqb (rank n all) k && ranksFrom all (suc k) ns
-
--- the names of a list differ from each other: each ranks where it stands
-unfoldable pub distinct : List ℕ → Bool
-distinct names = ranksFrom (pieces names) 0 (pieces names)
+-- some place says that its name is repeated
+abbrev pub anyRepeated : List ℕ → List Place → Bool
+anyRepeated s places = any (λ p. isRepeated (viewOf s p)) places
 
 -- a place lies within the form
 abbrev pub Within : List ℕ → Place → Type 0
 Within s p = (p .start ≤ p .end) × (p .end ≤ length s)
 
--- the answer r says of the form s what its pieces say, for each of the known names
-pub record Says (names s : List ℕ) (r : Form) : Type 0 where
-  pub within : (k : ℕ) → Within s (getD (r .places) k unseen)
-  -- a well-formed form's places say what its pieces say
-  pub values : isWellFormedForm s ≡ true → distinct names ≡ true → (k : ℕ) → k < placeCount → k < length (pieces names)
-      → viewOf s (getD (r .places) k unseen) ≡ formValue s (getD (pieces names) k [])
+-- the place is where the reader found the name: it lies within the form and says what the form's pieces say
+pub record StandsAt (s name : List ℕ) (p : Place) : Type 0 where
+  pub within : Within s p
+  pub value : viewOf s p ≡ formValue s name
+
+-- the form s is well formed, each of the names stands at its place, and the places say whether one of them is repeated
+pub record Stands (names : List (List ℕ)) (s : List ℕ) (places : List Place) : Type 0 where
+  pub formed : isWellFormedForm s ≡ true
+  pub at : (k : ℕ) → k < length names → StandsAt s (getD names k []) (getD places k unseen)
+  pub repeats : anyRepeated s places ≡ any (λ n. isRepeated (formValue s n)) names
+
+-- no two of the names are equal
+unfoldable pub distinct : List (List ℕ) → Bool
+distinct [] = true
+distinct (n ∷ ns) = every (λ m. not (same n m)) ns && distinct ns
+
+-- the text is these names with `&` between them; no two are equal, and each has a place
+pub record Known (text : List ℕ) (names : List (List ℕ)) : Type 0 where
+  pub parted : pieces text ≡ names
+  pub apart : distinct names ≡ true
+  pub few : leb (length names) placeCount ≡ true
+
+-- what the answer r to the form s and a text of names says
+pub record Says (text s : List ℕ) (r : Form) : Type 0 where
+  pub malformed : r .outcome ≡ Malformed → isWellFormedForm s ≡ false
+  pub stands : r .outcome ≡ WellFormed → (names : List (List ℕ)) → Known text names → Stands names s (r .places)

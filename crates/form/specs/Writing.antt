@@ -1,6 +1,8 @@
+-- For the round trip of whole forms; no code writes one yet.
+--
 -- A whole form, written from names and values, and what such a list says of a name.
 use Prim.Native.Nat.{ℕ}
-use mathlib.Core.List.{List, [], _∷_, _++_}
+use mathlib.Core.List.{List, [], _∷_, _++_, map}
 use mathlib.Core.Bool.{cond, not, _&&_}
 use Rattle.octets.specs.Lists.{Bytes, same}
 use Rattle.form_coding.specs.Coding.{encode}
@@ -21,10 +23,13 @@ unfoldable pub writePiece : Field → List ℕ
 writePiece f = encode (f .name) ++ 61 ∷ encode (f .value)
 
 -- pieces with & between them
+unfoldable pub join : List (List ℕ) → List ℕ
+join [] = []
+join (p ∷ []) = p
+join (p ∷ q ∷ ps) = p ++ 38 ∷ join (q ∷ ps)
+
 unfoldable pub writeForm : List Field → List ℕ
-writeForm [] = []
-writeForm (f ∷ []) = writePiece f
-writeForm (f ∷ g ∷ fs) = writePiece f ++ 38 ∷ writeForm (g ∷ fs)
+writeForm fs = join (map writePiece fs)
 
 -- what fields say of the name n, after others said `acc` of it: one with an empty value says nothing
 unfoldable pub fieldValue : List ℕ → Value → List Field → Value

@@ -1,16 +1,23 @@
 // form: the reader of application/x-www-form-urlencoded.
 //
 // The coding of one name or value is the crate form_coding; here is the reader of a whole form: a cursor that goes
-// from piece to piece, and the places of the known names.
+// from piece to piece, and the places of the known names. What is asked of a place is the module values.
+mod values;
+
+pub use values::any_repeated;
+pub use values::is_missing;
+pub use values::is_once;
+pub use values::is_repeated;
+pub use values::value_into;
 ghost use mathlib.Core.Path.{_≡_};
-ghost use Prim.Native.Nat.{_+_, _-_, _<_, _≤_};
-ghost use lib.ListN.{length, set, getD};
+ghost use Prim.Native.Nat.{_-_, _≤_};
+ghost use lib.ListN.{length};
 ghost use Rattle.octets.specs.Lists.{part};
 ghost use Rattle.form_coding.specs.Coding.{decode};
 ghost use Rattle.form.specs.Content.{pieces};
-ghost use Rattle.form.specs.Places.{placeCount, unseen, stepOf, rank, oneMore, seenAgain, enter, readOf, Says};
+ghost use Rattle.form.specs.Places.{stepOf, rank, oneMore, seenAgain, enter, readOf, Says};
 
-// How many known names a form has places for.
+// How many known names a form has places for: as many as the longest list of names needs.
 pub const PLACES: usize = 7;
 
 // How often a name was seen with a value that is not empty.
@@ -69,14 +76,8 @@ impl Cursor {
     {
         let at = self.at;
         if at <= s.len() {
-            let n = octets::index_of(&s[at..], b'&');
-            return Step::Piece(
-                Span {
-                    start: at,
-                    end: at + n,
-                },
-                Cursor { at: at + n + 1 },
-            );
+            let end = at + octets::index_of(&s[at..], b'&');
+            return Step::Piece(Span { start: at, end }, Cursor { at: end + 1 });
         }
         Step::End
     }
@@ -102,17 +103,6 @@ fn seen_again(p: Place, start: usize, end: usize) -> Place
     Place { count, start, end }
 }
 
-// The places with one more value of name k: a copy with one entry changed.
-fn entered(places: [Place; PLACES], k: usize, start: usize, end: usize) -> [Place; PLACES]
-    requires { ⌜ k < placeCount ⌝ }
-    ensures { λ r. ⌜ r ≡ set places k (seenAgain (getD places k unseen) start end) ⌝ }
-{
-    let mut next = places;
-    let old = next[k];
-    next[k] = seen_again(old, start, end);
-    next
-}
-
 // Where a name, still coded, stands among the known names, which have `&` between them. Past every place where it is
 // not among them.
 fn known(names: &[u8], name: &[u8]) -> usize
@@ -136,7 +126,8 @@ fn known(names: &[u8], name: &[u8]) -> usize
     }
 }
 
-// The places after the piece of s from start up to end. One with an empty value or an unknown name changes none.
+// The places after the piece of s from start up to end: a copy with one entry changed. A piece with an empty value or an
+// unknown name changes none.
 fn enter_piece(
     places: [Place; PLACES],
     names: &[u8],
@@ -156,12 +147,15 @@ fn enter_piece(
     if PLACES <= k {
         return places;
     }
-    entered(places, k, start + n + 1, end)
+    let mut next = places;
+    let old = next[k];
+    next[k] = seen_again(old, start + n + 1, end);
+    next
 }
 
 // Reads the form s: where the values of the known names stand, which are themselves a text with `&` between them.
 pub fn read(s: &[u8], names: &[u8]) -> Form
-    ensures positions { λ r. ⌜ r ≡ readOf (now (names .entry)) (now (s .entry)) ⌝ }
+    ensures positions { λ r. ⌜ r ≡ readOf (pieces (now (names .entry))) (now (s .entry)) ⌝ }
     ensures content { λ r. ⌜ Says (now (names .entry)) (now (s .entry)) r ⌝ }
 {
     let mut places = [Place {

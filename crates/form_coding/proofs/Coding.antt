@@ -9,7 +9,7 @@
 use Prim.Native.Nat.{ℕ, zero, suc, _+_, _*_, _/_, _%_, _<_, _≤_}
 use mathlib.Core.Path.{_≡_, refl, sym, _∙_, ap}
 use mathlib.Core.List.{List, [], _∷_, _++_}
-use mathlib.Core.Bool.{Bool, true, false, cond, not, _&&_, _||_, and-assoc, and-true}
+use mathlib.Core.Bool.{Bool, true, false, cond, not, _&&_, _||_, and-assoc, and-true, and-false}
 use native.Mathlib.Nat.{not-suc-le-zero, add-zero}
 use native.Mathlib.Numerals.{add-one}
 use native.Mathlib.Omega.{arith}
@@ -18,7 +18,7 @@ use lib.Dec.{leb, ltb, eqb}
 use lib.ListN.{getD, length, drop, length-drop, drop-of-length-le}
 use lib.Seq.{drop-cons, drop-drop, getD-drop}
 use Rattle.octets.specs.Lists.{same}
-use Rattle.octets.proofs.Booleans.{and-left, and-right, and-false}
+use Rattle.octets.proofs.Booleans.{by-test, cond-of, and-left, and-right}
 use Rattle.encoding.specs.Hex.{hexValue, hexDigit}
 use Rattle.form_coding.specs.declared.Symbol.{Symbol}
 use Rattle.form_coding.specs.Coding.{isEscape, plain, firstByte, extra, decodeAfter, decode, symbolOf, sound, wellFormed, isKept, encodeByte, encode, isAt}
@@ -89,24 +89,14 @@ unfolding extra isEscape hexValue
 extra-le [] h = absurd (not-suc-le-zero h)
 extra-le (a ∷ []) h = rw (and-false (eqb a 37)) (omega arith)
 extra-le (a ∷ b ∷ []) h = rw (and-false, and-false (eqb a 37)) (omega arith)
-extra-le (a ∷ b ∷ d ∷ t) h = short (isEscape (a ∷ b ∷ d ∷ t)) (length t)
-  where
-    short : (q : Bool) (n : ℕ) → cond q 2 0 + 1 ≤ suc (suc (suc n))
-    short true n = omega arith
-    short false n = omega arith
+extra-le (a ∷ b ∷ d ∷ t) h = cond-of (λ k. k + 1 ≤ suc (suc (suc (length t)))) (isEscape (a ∷ b ∷ d ∷ t)) 2 0 (λ e. omega arith) (λ e. omega arith)
 
 -- a byte is written in one to three
 pub byte-length : (b : ℕ) → (1 ≤ length (encodeByte b)) × (length (encodeByte b) ≤ 3)
 unfolding encodeByte
-byte-length b = by (isKept b) (eqb b 32)
-  where
-    written : Bool → Bool → List ℕ
-    written p q = cond p (b ∷ []) (cond q (43 ∷ []) (37 ∷ hexDigit 65 (b / 16) ∷ hexDigit 65 (b % 16) ∷ []))
-
-    by : (p q : Bool) → (1 ≤ length (written p q)) × (length (written p q) ≤ 3)
-    by true q = (omega arith, omega arith)
-    by false true = (omega arith, omega arith)
-    by false false = (omega arith, omega arith)
+byte-length b =
+    by-test (isKept b) (λ e. rw e (omega arith, omega arith))
+    (λ e. by-test (eqb b 32) (λ f. rw (e, f) (omega arith, omega arith)) (λ f. rw (e, f) (omega arith, omega arith)))
 
 -- ---- one symbol or one byte further
 
@@ -178,19 +168,15 @@ module _ (ok : Bool) (v : List ℕ) (i : ℕ) where
 -- a list that is not empty, against the bytes e from index k on: past their end there is none to equal
 same-cons : (x : ℕ) (xs e : List ℕ) (k : ℕ) → same (x ∷ xs) (drop k e) ≡ (isAt e k x && same xs (drop (k + 1) e))
 unfolding same
-same-cons x xs e k = by (ltb k (length e)) refl
-  where
-    by : (q : Bool) → ltb k (length e) ≡ q → same (x ∷ xs) (drop k e) ≡ ((q && eqb x (getD e k 0)) && same xs (drop (k + 1) e))
-    by true f = let h = ltb-true k (length e) f in rw (add-one, drop-cons e k 0 h)
-    by false f = let h = ltb-false k (length e) f in rw (drop-of-length-le e h)
+same-cons x xs e k =
+    by-test (ltb k (length e)) (λ f. let h = ltb-true k (length e) f in rw (f, add-one, drop-cons e k 0 h))
+    (λ f. let h = ltb-false k (length e) f in rw (f, drop-of-length-le e h))
 
 same-nil : (e : List ℕ) (k : ℕ) → same [] (drop k e) ≡ leb (length e) k
 unfolding same
-same-nil e k = by (leb (length e) k) refl
-  where
-    by : (q : Bool) → leb (length e) k ≡ q → same [] (drop k e) ≡ q
-    by true f = let h = leb-true (length e) k f in rw (drop-of-length-le e h)
-    by false f = let h = leb-false (length e) k f in rw (drop-cons e k 0 h)
+same-nil e k =
+    by-test (leb (length e) k) (λ f. let h = leb-true (length e) k f in rw (f, drop-of-length-le e h))
+    (λ f. let h = leb-false (length e) k f in rw (f, drop-cons e k 0 h))
 
 module _ (ok : Bool) (v : List ℕ) (i : ℕ) (e : List ℕ) (k : ℕ) where
   pub same-more : (h : i < length v) {s : Symbol} → s ≡ symbolOf (drop i v)

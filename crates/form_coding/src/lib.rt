@@ -5,6 +5,7 @@ ghost use mathlib.Core.Bool.{true};
 ghost use lib.ListN.{length, getD, drop};
 ghost use lib.Seq.{sets};
 ghost use Rattle.octets.specs.Lists.{same};
+ghost use Rattle.octets.specs.Writing.{Appended};
 ghost use Rattle.encoding.specs.Hex.{hexValue};
 ghost use Rattle.form_coding.specs.Coding.{isEscape, isAt, decode, symbolOf, sound, wellFormed, isKept, encodeByte, encode};
 
@@ -110,20 +111,6 @@ pub fn value_equals(v: &[u8], e: &[u8]) -> bool
     ok & (e.len() <= k)
 }
 
-// How many bytes v decodes to.
-pub fn decoded_len(v: &[u8]) -> usize
-    ensures { λ r. ⌜ r ≡ length (decode (now (v .entry))) ⌝ }
-{
-    let mut i = 0;
-    let mut n = 0;
-    while i < v.len() {
-        let s = symbol_at(v, i);
-        i += s.width;
-        n += 1;
-    }
-    n
-}
-
 // Writes the decoded bytes of v to out from its start, and gives their number.
 pub fn decode_into(v: &[u8], out: &mut [u8]) -> usize
     requires { ⌜ length (now v) ≤ length (now out) ⌝ }
@@ -154,11 +141,10 @@ fn is_kept(c: u8) -> bool
         | (c == b'*')
 }
 
-// Writes one byte at a place of out, and gives the place after it.
-fn put_byte(out: &mut [u8], at: usize, b: u8) -> usize
+// Writes one byte from `at` on, and says where it ends.
+fn append_byte(out: &mut [u8], at: usize, b: u8) -> usize
     requires { ⌜ at + 3 ≤ length (now out) ⌝ }
-    ensures next { λ r. ⌜ r ≡ at + length (encodeByte b) ⌝ }
-    ensures bytes { λ r. ⌜ now (out .exit) ≡ sets (now (out .entry)) at (encodeByte b) ⌝ }
+    ensures { λ r. ⌜ Appended (now (out .entry)) at (encodeByte b) (now (out .exit)) r ⌝ }
 {
     if is_kept(b) {
         out[at] = b;
@@ -174,17 +160,14 @@ fn put_byte(out: &mut [u8], at: usize, b: u8) -> usize
     at + 3
 }
 
-// Writes the bytes of v at a place of out, and gives the place after them.
-pub fn write_value(out: &mut [u8], at: usize, v: &[u8]) -> usize
+// Writes the bytes of v from `at` on, and says where they end. Each takes at most three.
+pub fn append_value(out: &mut [u8], at: usize, v: &[u8]) -> usize
     requires { ⌜ at + 3 * length (now v) ≤ length (now out) ⌝ }
-    ensures next { λ r. ⌜ r ≡ at + length (encode (now (v .entry))) ⌝ }
-    ensures bytes { λ r. ⌜ now (out .exit) ≡ sets (now (out .entry)) at (encode (now (v .entry))) ⌝ }
+    ensures { λ r. ⌜ Appended (now (out .entry)) at (encode (now (v .entry))) (now (out .exit)) r ⌝ }
 {
-    let mut w = at;
-    let mut i = 0;
-    while i < v.len() {
-        w = put_byte(out, w, v[i]);
-        i += 1;
+    let mut next = at;
+    for k in 0..v.len() {
+        next = append_byte(out, next, v[k]);
     }
-    w
+    next
 }

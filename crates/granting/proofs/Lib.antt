@@ -1,5 +1,3 @@
--- Laws of what is granted, for the proofs of this crate's functions, and examples.
-pub mod Rooms
-pub mod Issuing
-pub mod Outcomes
+-- Laws of what follows from a plan, for the proofs of this crate's functions, and examples.
+pub mod Plans
 pub mod Examples

@@ -1,60 +1,59 @@
--- What the granting functions answer and leave, in terms of protocol's definitions.
+-- For contracts inside; the exports' contracts do not cite it.
+--
+-- What granting answers and leaves, by a request's plan (protocol's Granting.antt).
 use Prim.Native.Nat.{ℕ}
-use mathlib.Core.Bool.{Bool, cond, _||_}
+use mathlib.Core.Path.{_≡_}
+use mathlib.Core.Bool.{Bool, false, cond}
 use mathlib.Core.List.{List}
-use lib.ListN.{getD, set}
-use Rattle.octets.specs.Lists.{same}
-use Rattle.token_store.specs.Store.{Store, freeSlot}
+use Rattle.encoding.specs.declared.HandleText.{HandleText}
+use Rattle.octets.specs.Search.{indexWhere}
+use Rattle.token_store.specs.Store.{Store, kindAccess, kindRefresh, withSlots, soughtKey, foundAt, issue}
 use Rattle.token_store.specs.declared.Slot.{Slot}
+use Rattle.token_store.specs.declared.Sought.{Sought}
+use Rattle.token_store.specs.declared.Found.{Found}
+use Rattle.token_store.specs.declared.Found.the-variants.{Nothing}
 use Rattle.protocol.specs.declared.Refusal.{Refusal}
+use Rattle.protocol.specs.declared.Decision.{Decision}
 use Rattle.protocol.specs.declared.Decision.the-variants.{Grant, Refuse}
-use Rattle.protocol.specs.Answers.{isGrant}
-use Rattle.protocol.specs.Requests.{scopeGiven, Request, authorize, exchange, refresh, asks}
-use Rattle.protocol.specs.Granting.{codeSlot, refreshSlot, isTaken, decide, newSlot, issue, accessOn, refreshOn, slotsAfter}
+use Rattle.protocol.specs.declared.Request.{Request}
+use Rattle.protocol.specs.declared.Request.the-variants.{Refused, Code, Exchange, Refresh}
+use Rattle.protocol.specs.Limits.{codeRandom, tokenRandom}
+use Rattle.protocol.specs.Granting.{Plan, decisionOn, slotsAfter, shownSlot, isOwn, tokenOn}
 use Rattle.granting.specs.declared.Granted.{Granted}
 
 -- ---- the answer
 
--- the scope of the access token that a request is granted
-unfoldable pub scopeOf : List Slot → Request → ℕ
-scopeOf slots (authorize client farm scope bound) = scope
-scopeOf slots (exchange client presented redirectAgain) = codeSlot presented slots .scope
-scopeOf slots (refresh client presented scope) = scopeGiven scope (refreshSlot presented slots .scope)
-
--- the decision, and that scope with a grant; 0 with a refusal
-unfoldable pub grantedOf : ℕ → List Slot → List ℕ → Request → Granted
-grantedOf t slots random request =
-    let d = decide t slots random request in
-    record { decision = d; scope = cond (isGrant d) (scopeOf slots request) 0 }
-
 abbrev pub refusedWith : Refusal → Granted
-refusedWith refusal = record { decision = Refuse refusal; scope = 0 }
+refusedWith refusal = record { decision = Refuse refusal; scope = 0; refresh = false }
 
-abbrev pub grantedWith : ℕ → Granted
-grantedWith scope = record { decision = Grant; scope = scope }
+abbrev pub grantedWith : ℕ → Bool → Granted
+grantedWith scope refresh = record { decision = Grant; scope = scope; refresh = refresh }
 
--- ---- the store
+unfoldable pub grantedBy : Decision → Plan → Granted
+grantedBy Grant plan = grantedWith (plan .scope) (plan .bringsRefresh)
+grantedBy (Refuse refusal) plan = refusedWith refusal
 
--- the store with other slots, at the same time
-abbrev pub withSlots : Store → List Slot → Store
-withSlots g slots = record { time = g .time; slots = slots }
+-- ---- the contract of every grant: the answer, and the slots that are left, are those of the plan
 
--- the store after a request at t
-abbrev pub storeAfter : ℕ → Store → List ℕ → Request → Store
-storeAfter t g random request = withSlots g (slotsAfter t (g .slots) random (asks request))
+pub record Follows (plan : Plan) (before : Store) (r : Granted) (after : Store) : Type 0 where
+  pub answer : r ≡ grantedBy (decisionOn plan) plan
+  pub store : after ≡ withSlots before (slotsAfter plan)
 
--- ---- parts of an exchange
+-- how many random bytes a request takes
+abbrev pub randomNeeded : Request → ℕ
+randomNeeded (Refused refusal) = 0
+randomNeeded (Code r) = codeRandom
+randomNeeded (Exchange r) = tokenRandom
+randomNeeded (Refresh r) = tokenRandom
 
--- "a handle to be issued equals that of any slot in use, or two to be issued are equal"
-abbrev pub anyClash : List ℕ → List ℕ → List Slot → Bool
-anyClash first second slots = isTaken first slots || isTaken second slots || same first second
+-- ---- steps of a grant
 
--- what is issued on the code or refresh token `origin`
-abbrev pub tokenOn : ℕ → ℕ → List ℕ → Slot → ℕ → Slot
-tokenOn t kind handle origin scope = newSlot t kind handle (origin .client) (origin .farm) scope
+-- where the client's own code or refresh token is, live at t
+abbrev pub ownAt : ℕ → ℕ → Sought → HandleText → List Slot → Found
+ownAt t client sought presented slots =
+    cond (isOwn t client (shownSlot sought presented slots)) (foundAt (indexWhere (soughtKey sought presented) slots)) Nothing
 
--- the slots with the code in place i cleared, and then an access and a refresh token issued on it
-abbrev pub spentAt : ℕ → List ℕ → List ℕ → ℕ → List Slot → List Slot
-spentAt t first second i slots =
-    let code = getD slots i freeSlot in
-    issue t (refreshOn t second code) (issue t (accessOn t first code (code .scope)) (set slots i freeSlot))
+-- the slots after an access and a refresh token are issued on a code that is cleared
+abbrev pub spentOn : ℕ → List ℕ → List ℕ → Slot → List Slot → List Slot
+spentOn t first second code slots =
+    issue t (tokenOn code t kindRefresh second (code .scope)) (issue t (tokenOn code t kindAccess first (code .scope)) slots)

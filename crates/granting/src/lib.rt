@@ -1,14 +1,17 @@
 // granting: what the store grants to a request that is read and admitted, and what that leaves in its slots.
 //
-// The functions that grant decide first and change the store only for a grant: a request that is refused spends nothing.
-// Each takes the call's time t, which no clock moves back, and never a clock.
+// A grant decides first and changes the store only once nothing is left to refuse: a request that is refused spends
+// nothing. It takes the call's time t, which no clock moves back, and never a clock.
 use encoding::HandleText;
+use protocol::CodeRequest;
 use protocol::Decision;
 use protocol::ErrorWord;
+use protocol::ExchangeRequest;
 use protocol::Failure;
+use protocol::Reading;
+use protocol::RefreshRequest;
 use protocol::Refusal;
-use protocol::ScopeAsked;
-use scope::Scope;
+use protocol::Request;
 use token_store::Found;
 use token_store::Slot;
 use token_store::Sought;
@@ -19,62 +22,50 @@ use token_store::layout::KIND_CODE;
 use token_store::layout::KIND_REFRESH;
 ghost use mathlib.Core.Path.{_≡_};
 ghost use mathlib.Core.Bool.{cond};
-ghost use Prim.Native.Nat.{_+_, _*_, _<_, _≤_};
-ghost use lib.ListN.{length};
-ghost use Rattle.octets.specs.Lists.{part};
-ghost use Rattle.token_store.specs.Layout.{storeSize, slotCount, handleSize, latestTime};
-ghost use Rattle.token_store.specs.Store.{decode, slotOf, kindCode, kindBoundCode, kindRefresh};
-ghost use Rattle.protocol.specs.Requests.{fits, scopeGiven, authorize, exchange, refresh};
-ghost use Rattle.protocol.specs.Granting.{isGoodCode, isGoodRefresh, decide, newSlot, issue};
-ghost use Rattle.granting.specs.Granted.{grantedOf, refusedWith, withSlots, storeAfter, anyClash, tokenOn, spentAt};
+ghost use Prim.Native.Nat.{_+_, _<_, _≤_};
+ghost use lib.ListN.{length, set};
+ghost use Rattle.token_store.specs.Layout.{storeSize, slotCount, latestTime};
+ghost use Rattle.token_store.specs.Store.{decode, withSlots, freeSlot, kindCode, kindBoundCode, kindLast, lifetimeOf};
+ghost use Rattle.protocol.specs.Limits.{codeRandom, tokenRandom};
+ghost use Rattle.protocol.specs.Granting.{newCode, tokenOn, anyTaken, codePlan, exchangePlan, refreshPlan, planOf};
+ghost use Rattle.granting.specs.Granted.{refusedWith, grantedWith, Follows, randomNeeded, ownAt, spentOn};
 
-// What the token endpoint is granted: the decision, and the scope of the access token, which is 0 with a refusal.
+// What a request comes to: the decision; with a grant the scope of what is issued, and whether a refresh token comes
+// with it; 0 and false with a refusal.
 pub struct Granted {
     pub decision: Decision,
     pub scope: u8,
+    pub refresh: bool,
 }
 
-// A refusal, with no scope.
 fn refused(refusal: Refusal) -> Granted
     ensures { λ r. ⌜ r ≡ refusedWith refusal ⌝ }
 {
     Granted {
         decision: Decision::Refuse(refusal),
         scope: 0,
+        refresh: false,
     }
 }
 
-// Whether the scope asked for is within a set: a value that is no scope never is.
-pub fn scope_fits(asked: ScopeAsked, held: u8) -> bool
-    ensures { λ r. ⌜ r ≡ fits asked held ⌝ }
+fn issued(scope: u8, refresh: bool) -> Granted
+    ensures { λ r. ⌜ r ≡ grantedWith scope refresh ⌝ }
 {
-    match asked {
-        ScopeAsked::Everything => true,
-        ScopeAsked::Only(bits) => Scope::from_byte(bits).within(Scope::from_byte(held)),
-        ScopeAsked::Unreadable => false,
+    Granted {
+        decision: Decision::Grant,
+        scope,
+        refresh,
     }
 }
 
-// The scope that is given of a set: all of it where none is asked for.
-pub fn scope_given(asked: ScopeAsked, held: u8) -> u8
-    ensures { λ r. ⌜ r ≡ scopeGiven asked held ⌝ }
-{
-    match asked {
-        ScopeAsked::Everything => held,
-        ScopeAsked::Only(bits) => bits,
-        ScopeAsked::Unreadable => held,
-    }
-}
+// ---- what is issued
 
-// The handle that the random bytes from `at` on make.
-fn handle_at(random: &[u8], at: usize) -> [u8; HANDLE_SIZE]
-    requires { ⌜ at + handleSize ≤ length (now random) ⌝ }
-    ensures { λ r. ⌜ r ≡ part (now (random .entry)) at handleSize ⌝ }
+// When what is issued at t runs out: its kind says how long it lives.
+fn expiry_at(t: u64, kind: u8) -> u64
+    requires { ⌜ (t ≤ latestTime) × (kind ≤ kindLast) ⌝ }
+    ensures { λ r. ⌜ r ≡ t + lifetimeOf kind ⌝ }
 {
-    let mut handle = [0u8; HANDLE_SIZE];
-    let end = at + HANDLE_SIZE;
-    octets::copy_at(&mut handle, 0, &random[at..end]);
-    handle
+    t + token_store::lifetime(kind)
 }
 
 // The kind of a code, by whether it is bound to its redirect address.
@@ -84,193 +75,184 @@ fn code_kind(bound: bool) -> u8
     if bound { KIND_BOUND_CODE } else { KIND_CODE }
 }
 
-// What is issued at t: its kind says how long it lives.
-fn new_slot(t: u64, kind: u8, handle: [u8; HANDLE_SIZE], client: u8, farm: u32, scope: u8) -> Slot
-    requires { ⌜ (t ≤ latestTime) × (kind ≤ kindRefresh) ⌝ }
-    ensures { λ r. ⌜ r ≡ newSlot t kind handle client farm scope ⌝ }
+// The code that is issued on a request.
+fn new_code(t: u64, handle: [u8; HANDLE_SIZE], request: CodeRequest) -> Slot
+    requires { ⌜ t ≤ latestTime ⌝ }
+    ensures { λ r. ⌜ r ≡ newCode t handle request ⌝ }
 {
-    let expiry = t + token_store::lifetime(kind);
+    let kind = code_kind(request.bound);
+    let expiry = expiry_at(t, kind);
     Slot {
         kind,
         handle,
-        client,
-        farm,
-        scope,
+        client: request.client,
+        farm: request.farm,
+        scope: request.scope,
         expiry,
     }
 }
 
-// What is issued at t on the code or refresh token in slot i: client and farm are taken from there.
-fn token_on(store: &[u8], i: usize, t: u64, kind: u8, handle: [u8; HANDLE_SIZE], scope: u8) -> Slot
-    requires { ⌜ (length (now store) ≡ storeSize) × (i < slotCount) × (t ≤ latestTime) × (kind ≤ kindRefresh) ⌝ }
-    ensures { λ r. ⌜ r ≡ tokenOn t kind handle (slotOf (decode (now (store .entry))) i) scope ⌝ }
+// The token that is issued on a code or refresh token: client and farm are its own.
+fn token_on(origin: Slot, t: u64, kind: u8, handle: [u8; HANDLE_SIZE], scope: u8) -> Slot
+    requires { ⌜ (t ≤ latestTime) × (kind ≤ kindLast) ⌝ }
+    ensures { λ r. ⌜ r ≡ tokenOn origin t kind handle scope ⌝ }
 {
-    let client = token_store::client_of(store, i);
-    let farm = token_store::farm_of(store, i);
-    new_slot(t, kind, handle, client, farm, scope)
+    let expiry = expiry_at(t, kind);
+    Slot {
+        kind,
+        handle,
+        scope,
+        expiry,
+        ..origin
+    }
 }
 
-// Writes a slot in the lowest place that is free or has run out at t. Where there is none nothing changes.
-fn issue(store: &mut [u8], t: u64, s: Slot)
+// ---- what is looked at
+
+// The slot of the code or refresh token presented, where it is live at t and the client's own.
+fn find_own(store: &[u8], t: u64, sought: Sought, presented: HandleText, client: u8) -> Found
     requires { ⌜ length (now store) ≡ storeSize ⌝ }
-    ensures { λ _. ⌜ decode (now (store .exit)) ≡ withSlots (decode (now (store .entry))) (issue t s (decode (now (store .entry)) .slots)) ⌝ }
+    ensures { λ r. ⌜ r ≡ ownAt t client sought presented (decode (now (store .entry)) .slots) ⌝ }
 {
-    let Found::At(i) = token_store::vacant(store, t) else {
-        return;
+    let Found::At(i) = token_store::find(store, sought, presented) else {
+        return Found::Nothing;
     };
-    token_store::put(store, i, s);
-}
-
-// Whether the code in slot i is good at t for this client. A bound code asks for its redirect address again.
-fn is_good_code(store: &[u8], i: usize, t: u64, client: u8, again: bool) -> bool
-    requires { ⌜ (length (now store) ≡ storeSize) × (i < slotCount) ⌝ }
-    ensures { λ r. ⌜ r ≡ isGoodCode t client again (slotOf (decode (now (store .entry))) i) ⌝ }
-{
-    let live = token_store::is_live(store, i, t);
-    let owner = token_store::client_of(store, i);
-    let kind = token_store::kind_of(store, i);
-    live & ((owner == client) & ((kind != KIND_BOUND_CODE) | again))
-}
-
-// Whether the refresh token in slot i is good at t for this client.
-fn is_good_refresh(store: &[u8], i: usize, t: u64, client: u8) -> bool
-    requires { ⌜ (length (now store) ≡ storeSize) × (i < slotCount) ⌝ }
-    ensures { λ r. ⌜ r ≡ isGoodRefresh t client (slotOf (decode (now (store .entry))) i) ⌝ }
-{
-    let live = token_store::is_live(store, i, t);
-    let owner = token_store::client_of(store, i);
-    live & (owner == client)
+    let slot = token_store::slot_at(store, i);
+    if slot.is_live(t) & (slot.client == client) {
+        return Found::At(i);
+    }
+    Found::Nothing
 }
 
 // Whether one of two handles is in use, or they are equal.
 fn any_clash(store: &[u8], first: &[u8], second: &[u8]) -> bool
     requires { ⌜ length (now store) ≡ storeSize ⌝ }
-    ensures { λ r. ⌜ r ≡ anyClash (now (first .entry)) (now (second .entry)) (decode (now (store .entry)) .slots) ⌝ }
+    ensures { λ r. ⌜ r ≡ anyTaken (now (first .entry)) (now (second .entry)) (decode (now (store .entry)) .slots) ⌝ }
 {
     let one = token_store::clashes(store, first);
     let other = token_store::clashes(store, second);
     one | other | octets::equal(first, second)
 }
 
-// Clears the code in slot i, then issues an access and a refresh token on it, and says their scope.
-fn spend_code(
+// ---- grants
+
+// Issues a code.
+fn grant_code(store: &mut [u8], t: u64, random: &[u8], request: CodeRequest) -> Granted
+    requires { ⌜ (length (now store) ≡ storeSize) × (t ≤ latestTime) × (codeRandom ≤ length (now random)) ⌝ }
+    ensures { λ r.
+        let before = decode (now (store .entry)) in
+        ⌜ Follows (codePlan t (before .slots) (now (random .entry)) request) before r (decode (now (store .exit))) ⌝ }
+{
+    if !token_store::has_room(store, t, 1) {
+        return refused(Refusal::Redirect(ErrorWord::TemporarilyUnavailable));
+    }
+    let handle = token_store::handle_at(random, 0);
+    if token_store::clashes(store, &handle) {
+        return refused(Refusal::Redirect(ErrorWord::ServerError));
+    }
+    token_store::issue(store, t, new_code(t, handle, request));
+    issued(request.scope, false)
+}
+
+// Clears the slot of a code, then issues an access and a refresh token on it.
+fn spend(
     store: &mut [u8],
-    i: usize,
     t: u64,
+    i: usize,
+    code: Slot,
     first: [u8; HANDLE_SIZE],
     second: [u8; HANDLE_SIZE],
-) -> u8
-    requires { ⌜ (length (now store) ≡ storeSize) × (i < slotCount) × (t ≤ latestTime) ⌝ }
-    ensures scope { λ r. ⌜ r ≡ slotOf (decode (now (store .entry))) i .scope ⌝ }
-    ensures slots { λ _. ⌜ decode (now (store .exit)) ≡ withSlots (decode (now (store .entry))) (spentAt t first second i (decode (now (store .entry)) .slots)) ⌝ }
+)
+    requires { ⌜ (length (now store) ≡ storeSize) × (t ≤ latestTime) × (i < slotCount) ⌝ }
+    ensures { λ _.
+        let before = decode (now (store .entry)) in
+        ⌜ decode (now (store .exit)) ≡ withSlots before (spentOn t first second code (set (before .slots) i freeSlot)) ⌝ }
 {
-    let scope = token_store::scope_of(store, i);
-    let access = token_on(store, i, t, KIND_ACCESS, first, scope);
-    let refresh = token_on(store, i, t, KIND_REFRESH, second, scope);
+    let scope = code.scope;
     token_store::clear(store, i);
-    issue(store, t, access);
-    issue(store, t, refresh);
-    scope
+    token_store::issue(store, t, token_on(code, t, KIND_ACCESS, first, scope));
+    token_store::issue(store, t, token_on(code, t, KIND_REFRESH, second, scope));
 }
 
-// Issues a code to a client for a farm and a scope; `bound` says that the request named the redirect address.
-pub fn grant_code(
+// Exchanges the code presented for an access and a refresh token.
+fn grant_exchange(
     store: &mut [u8],
     t: u64,
     random: &[u8],
-    client: u8,
-    farm: u32,
-    scope: u8,
-    bound: bool,
-) -> Decision
-    requires { ⌜ (length (now store) ≡ storeSize) × (t ≤ latestTime) × (length (now random) ≡ handleSize) ⌝ }
-    ensures answer { λ r. ⌜ r ≡ decide t (decode (now (store .entry)) .slots) (now (random .entry)) (authorize client farm scope bound) ⌝ }
-    ensures slots { λ _. ⌜ decode (now (store .exit)) ≡ storeAfter t (decode (now (store .entry))) (now (random .entry)) (authorize client farm scope bound) ⌝ }
-{
-    let Found::At(i) = token_store::vacant(store, t) else {
-        return Decision::Refuse(Refusal::Redirect(ErrorWord::TemporarilyUnavailable));
-    };
-    let handle = handle_at(random, 0);
-    if token_store::clashes(store, &handle) {
-        return Decision::Refuse(Refusal::Redirect(ErrorWord::ServerError));
-    }
-    let code = new_slot(t, code_kind(bound), handle, client, farm, scope);
-    token_store::put(store, i, code);
-    Decision::Grant
-}
-
-// Exchanges the code presented for an access and a refresh token; `again` says that the request named the registered
-// redirect address.
-pub fn grant_exchange(
-    store: &mut [u8],
-    t: u64,
-    random: &[u8],
-    client: u8,
     presented: HandleText,
-    again: bool,
+    request: ExchangeRequest,
 ) -> Granted
-    requires { ⌜ (length (now store) ≡ storeSize) × (t ≤ latestTime) × (length (now random) ≡ 2 * handleSize) ⌝ }
-    ensures answer { λ r. ⌜ r ≡ grantedOf t (decode (now (store .entry)) .slots) (now (random .entry)) (exchange client presented again) ⌝ }
-    ensures slots { λ _. ⌜ decode (now (store .exit)) ≡ storeAfter t (decode (now (store .entry))) (now (random .entry)) (exchange client presented again) ⌝ }
+    requires { ⌜ (length (now store) ≡ storeSize) × (t ≤ latestTime) × (tokenRandom ≤ length (now random)) ⌝ }
+    ensures { λ r.
+        let before = decode (now (store .entry)) in
+        ⌜ Follows (exchangePlan t (before .slots) (now (random .entry)) presented request) before r (decode (now (store .exit))) ⌝ }
 {
-    let Found::At(i) = token_store::find(store, Sought::Code, presented) else {
+    let Found::At(i) = find_own(store, t, Sought::Code, presented, request.client) else {
         return refused(Refusal::Token(ErrorWord::InvalidGrant));
     };
-    if !is_good_code(store, i, t, client, again) {
+    let code = token_store::slot_at(store, i);
+    if (code.kind == KIND_BOUND_CODE) & !request.again {
         return refused(Refusal::Token(ErrorWord::InvalidGrant));
     }
-    // The code's own slot is live and so is not the one found: with it there are two.
-    let Found::At(_) = token_store::vacant(store, t) else {
+    // The code's own slot counts as free. It is live, so that it is not the one found: with it there are two.
+    if !token_store::has_room(store, t, 1) {
         return refused(Refusal::Failed(Failure::NoRoom));
-    };
-    let first = handle_at(random, 0);
-    let second = handle_at(random, HANDLE_SIZE);
+    }
+    let first = token_store::handle_at(random, 0);
+    let second = token_store::handle_at(random, HANDLE_SIZE);
     if any_clash(store, &first, &second) {
         return refused(Refusal::Failed(Failure::Clash));
     }
-    let scope = spend_code(store, i, t, first, second);
-    Granted {
-        decision: Decision::Grant,
-        scope,
-    }
+    spend(store, t, i, code, first, second);
+    issued(code.scope, true)
 }
 
-// Issues an access token on the refresh token presented, which stays. Only the first half of
-// the random bytes is looked at.
-pub fn grant_refresh(
+// Issues an access token on the refresh token presented, which stays. Of the random bytes the first handle is looked at.
+fn grant_refresh(
     store: &mut [u8],
     t: u64,
     random: &[u8],
-    client: u8,
     presented: HandleText,
-    asked: ScopeAsked,
+    request: RefreshRequest,
 ) -> Granted
-    requires { ⌜ (length (now store) ≡ storeSize) × (t ≤ latestTime) × (length (now random) ≡ 2 * handleSize) ⌝ }
-    ensures answer { λ r. ⌜ r ≡ grantedOf t (decode (now (store .entry)) .slots) (now (random .entry)) (refresh client presented asked) ⌝ }
-    ensures slots { λ _. ⌜ decode (now (store .exit)) ≡ storeAfter t (decode (now (store .entry))) (now (random .entry)) (refresh client presented asked) ⌝ }
+    requires { ⌜ (length (now store) ≡ storeSize) × (t ≤ latestTime) × (tokenRandom ≤ length (now random)) ⌝ }
+    ensures { λ r.
+        let before = decode (now (store .entry)) in
+        ⌜ Follows (refreshPlan t (before .slots) (now (random .entry)) presented request) before r (decode (now (store .exit))) ⌝ }
 {
-    let Found::At(i) = token_store::find(store, Sought::Refresh, presented) else {
+    let Found::At(i) = find_own(store, t, Sought::Refresh, presented, request.client) else {
         return refused(Refusal::Token(ErrorWord::InvalidGrant));
     };
-    if !is_good_refresh(store, i, t, client) {
-        return refused(Refusal::Token(ErrorWord::InvalidGrant));
-    }
-    let held = token_store::scope_of(store, i);
-    if !scope_fits(asked, held) {
+    let token = token_store::slot_at(store, i);
+    let asked = request.scope;
+    if !parameters::scope_fits(asked, token.scope) {
         return refused(Refusal::Token(ErrorWord::InvalidScope));
     }
-    let Found::At(j) = token_store::vacant(store, t) else {
+    if !token_store::has_room(store, t, 1) {
         return refused(Refusal::Failed(Failure::NoRoom));
-    };
-    let handle = handle_at(random, 0);
+    }
+    let handle = token_store::handle_at(random, 0);
     if token_store::clashes(store, &handle) {
         return refused(Refusal::Failed(Failure::Clash));
     }
-    let scope = scope_given(asked, held);
-    let access = token_on(store, i, t, KIND_ACCESS, handle, scope);
-    token_store::put(store, j, access);
-    Granted {
-        decision: Decision::Grant,
-        scope,
+    let scope = parameters::scope_given(asked, token.scope);
+    token_store::issue(store, t, token_on(token, t, KIND_ACCESS, handle, scope));
+    issued(scope, false)
+}
+
+// Grants what a call asks, or refuses it. A call that was refused as it was read stays so.
+pub fn grant(store: &mut [u8], t: u64, random: &[u8], reading: Reading) -> Granted
+    requires { ⌜ (length (now store) ≡ storeSize) × (t ≤ latestTime) × (randomNeeded (reading .request) ≤ length (now random)) ⌝ }
+    ensures { λ r.
+        let before = decode (now (store .entry)) in
+        ⌜ Follows (planOf t (before .slots) (now (random .entry)) reading) before r (decode (now (store .exit))) ⌝ }
+{
+    let request = reading.request;
+    let presented = reading.presented;
+    match request {
+        Request::Refused(refusal) => refused(refusal),
+        Request::Code(code) => grant_code(store, t, random, code),
+        Request::Exchange(exchange) => grant_exchange(store, t, random, presented, exchange),
+        Request::Refresh(refresh) => grant_refresh(store, t, random, presented, refresh),
     }
 }

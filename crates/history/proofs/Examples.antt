@@ -8,7 +8,7 @@
 use mathlib.Core.Path.{_≡_, refl}
 use mathlib.Core.Bool.{Bool, true, false, _&&_, Bool·beq}
 use mathlib.Core.List.{List, [], _∷_, _++_}
-use Prim.Native.Nat.{ℕ, zero, suc, max}
+use Prim.Native.Nat.{ℕ, max}
 use lib.ListN.{replicate}
 use Rattle.octets.specs.Text.{bytes}
 use Rattle.octets.specs.Lists.{every, same, indexOf, splitOn, grow}
@@ -16,44 +16,48 @@ use Rattle.encoding.specs.Hex.{hexValue, readHandle, isHandleText, unhex}
 use Rattle.encoding.specs.Base64.{isBase64, base64Bytes, groupBytes, soundGroup, sextet, none}
 use Rattle.encoding.specs.declared.HandleText.{HandleText}
 use Rattle.form_coding.specs.Coding.{decodeAfter, firstByte, extra, isEscape, plain, wellFormed, sound}
-use Rattle.form.specs.Content.{isWellFormedForm, nameOf, valueOf as pieceValue, gives, add, valueIn, formValue}
+use Rattle.form.specs.Content.{isWellFormedForm, pieceName, pieceValue, gives, add, valueIn, formValue, isMissing, isRepeated, onlyValue, isOnce}
 use Rattle.scope.specs.Set.{names}
 use Rattle.scope.specs.Value.{bitFrom, bitOf, union, readScope}
 use Rattle.client_registry.specs.Registry.{distinct}
-use Rattle.client_registry.specs.Lookup.{numberOf}
 use Rattle.client_registry.specs.Sample.{sampleConfidential, samplePublic, sampleClients}
-use Rattle.token_store.specs.Search.{count, any, firstOr, replaceFirst, keep}
-use Rattle.token_store.specs.Store.{kindBoundCode, kindAccess, freeSlot, fresh}
+use Rattle.octets.specs.Search.{indexWhere, count, any, firstOr, replaceFirst, keep}
+use Rattle.token_store.specs.Store.{kindAccess, freeSlot, fresh}
 use Rattle.token_store.specs.declared.Slot.{Slot}
 use Rattle.protocol.specs.declared.ErrorWord.the-variants.{InvalidGrant, InvalidScope}
 use Rattle.protocol.specs.declared.Failure.the-variants.{NoRoom}
 use Rattle.protocol.specs.declared.Refusal.the-variants.{Token, Failed}
 use Rattle.protocol.specs.declared.Decision.{Decision}
 use Rattle.protocol.specs.declared.Decision.the-variants.{Grant, Refuse}
+use Rattle.protocol.specs.declared.CodeRequest.{CodeRequest}
+use Rattle.protocol.specs.declared.ExchangeRequest.{ExchangeRequest}
+use Rattle.protocol.specs.declared.Request.{Request}
+use Rattle.protocol.specs.declared.Request.the-variants.{Refused, Code, Exchange, Refresh}
 use Rattle.protocol.specs.declared.CheckAnswer.the-variants.{Live}
 use Rattle.protocol.specs.Answers.{isGrant}
-use Rattle.protocol.specs.Requests.{isMissing, isRepeated, valueOf, isOnce, askedBy, scopeAsked, fits, scopeGiven, authorize, exchange, refresh, Reading, refused, asks}
-use Rattle.protocol.specs.Authorization.{isBadQuery, queryClient, isBadClient, isBadRedirect, isSoundState, isBadState, isInvalidRequest, isOtherType, isInvalidScope, readAuthorization}
-use Rattle.protocol.specs.Token.{isInvalidBody, lowerCase, sameAnyCase, credentials, isBadHeader, headerId, headerSecret, presentedId, presentedSecret, isUnclearId, isImpostor, callClient, isInvalidClient, readToken}
-use Rattle.protocol.specs.Granting.{refuseIf, newSlot, decide, decideReading, granted, denied, slotsAfter, checkSlots}
-use Rattle.protocol.specs.Outcomes.{authorizationServed, tokenServed}
-use Rattle.history.specs.Calls.{Call, authorization, token, check, Answer, authorizationAnswer, tokenAnswer, checkAnswer, isUnfitRefusal, isUnfitDecision, isUnfitCheck, isUnfit}
-use Rattle.history.specs.Contents.{Issue, codeIssue, accessIssue, refreshIssue, noIssue, isWithinGranted, askedOr, issuedBy, isEndedBy, clockOf, afterGrant, afterCall, isGranted, Contents, withEvent, withEvents, contents, twenties, twentiesSeen}
-use Rattle.history.specs.Claim.{mayExchange, mayRefresh, mayPass, isLiveAnswer}
-use Rattle.history.proofs.Replay.{asked, randomOf, answerOn, leftByAll, eventsOn}
+use Rattle.protocol.specs.Refusals.{firstOf}
+use Rattle.protocol.specs.Requests.{askedBy, scopeAsked, fits, scopeGiven, unlessRefused}
+use Rattle.protocol.specs.Authorization.{isBadQuery, queryClient, isBadClient, isBadRedirect, isSoundState, isBadState, isInvalidRequest, isOtherType, isInvalidScope, codeAsked, pageReasons, redirectReasons, readAuthorization}
+use Rattle.protocol.specs.ClientForms.{isInvalidForm, lowerCase, sameAnyCase, credentials, isBadHeader, headerId, headerSecret, presentedId, presentedSecret, isUnclearId, isImpostor, callClient, isInvalidClient, formReasons}
+use Rattle.protocol.specs.Token.{readExchange, readRefresh, readGrant, readToken}
+use Rattle.protocol.specs.Granting.{newCode, tokenOn, refusedPlan, codePlan, exchangePlan, refreshPlan, planFor, decisionOn, slotsBy, checkSlots}
+use Rattle.protocol.specs.Outcomes.{Handed, serveAuthorization, serveToken, serveCheck}
+use Rattle.protocol.proofs.Starred.{countUp, rfcQuery}
+use Rattle.history.specs.Calls.{Call, authorization, token, check, handedTo, Answer, authorizationAnswer, tokenAnswer, checkAnswer, isUnfitRefusal, isUnfitDecision, isUnfitCheck, isUnfit}
+use Rattle.history.specs.Contents.{access, refresh, Issue, codeIssue, tokenIssue, noIssue, isWithinGranted, askedOr, issuedBy, isEndedBy, asked, afterGrant, isGranted, Contents, nothingYet, withEvent, withEvents, twenties}
+use Rattle.history.specs.Claim.{mayExchange, mayRefresh, mayPass, isLiveCheck, isLiveAnswer}
+use Rattle.history.proofs.AnyCall.{outcomeOn}
+use Rattle.history.proofs.CallsOnRecords.{answerOn, leftByAll, eventsOn}
 
 -- ---- the calls
 
--- n numbers from k on
-unfoldable pub countUp : ℕ → ℕ → List ℕ
-countUp zero k = []
-countUp (suc n) k = k ∷ countUp n (suc k)
+-- so many random bytes from `first` on, and room to write
+unfoldable pub handedAt : ℕ → ℕ → ℕ → Handed
+handedAt clock size first = record { clock = clock; random = countUp size first; output = replicate 1024 0 }
 
--- the document's query, allowed for farm 7, with 20 random bytes from `first` on
+-- the document's query, allowed for farm 7
 unfoldable pub authorizeAt : ℕ → ℕ → Call
-authorizeAt clock first =
-    authorization (bytes "response_type=code&client_id=s6BhdRkqt3&state=xyz&redirect_uri=https%3A%2F%2Fclient%2Eexample%2Ecom%2Fcb") 1 7 clock
-    (countUp 20 first) (replicate 1024 0)
+authorizeAt clock first = authorization rfcQuery 1 7 (handedAt clock 20 first)
 
 -- "`Basic czZCaGRSa3F0MzpnWDFmQmF0M2JW`"
 unfoldable pub header : List ℕ
@@ -63,9 +67,8 @@ header = bytes "Basic czZCaGRSa3F0MzpnWDFmQmF0M2JW"
 unfoldable pub body : List ℕ
 body = bytes "grant_type=authorization_code&code=000102030405060708090a0b0c0d0e0f10111213&redirect_uri=https%3A%2F%2Fclient%2Eexample%2Ecom%2Fcb"
 
--- a call at the token endpoint, with 40 random bytes from `first` on
 unfoldable pub tokenAt : List ℕ → List ℕ → ℕ → ℕ → Call
-tokenAt h b clock first = token h b clock (countUp 40 first) (replicate 1024 0)
+tokenAt h b clock first = token h b (handedAt clock 40 first)
 
 -- that exchange, "random 20 to 47 hex"
 unfoldable pub exchangeAt : ℕ → Call
@@ -77,7 +80,8 @@ withoutRedirect = bytes "grant_type=authorization_code&code=00010203040506070809
 
 pub byBarnapp : List ℕ
 byBarnapp =
-    bytes "grant_type=authorization_code&client_id=barnapp&code=000102030405060708090a0b0c0d0e0f10111213&redirect_uri=https%3A%2F%2Fbarn%2Eexample%2Fr%3Fx%3D1"
+    bytes "grant_type=authorization_code&client_id=barnapp&code=000102030405060708090a0b0c0d0e0f10111213"
+    ++ bytes "&redirect_uri=https%3A%2F%2Fbarn%2Eexample%2Fr%3Fx%3D1"
 
 -- a refresh with the token that the exchange gave, and what is asked
 pub refreshFor : List ℕ → List ℕ
@@ -130,23 +134,24 @@ cases =
 pub yields : Answer → Bool
 yields (authorizationAnswer a) = isGranted (authorizationAnswer a)
 yields (tokenAnswer a) = isGranted (tokenAnswer a)
-yields (checkAnswer a) = isLiveAnswer a
+yields (checkAnswer a) = isLiveAnswer (checkAnswer a)
 
 -- what the claim asks of what the calls contain
-pub mayRequest : ℕ → List Issue → Reading → Bool
-mayRequest t standing (refused r) = false
-mayRequest t standing (asks (authorize client farm scope bound)) = false
-mayRequest t standing (asks (exchange client p again)) = mayExchange t standing client p again
-mayRequest t standing (asks (refresh client p scope)) = mayRefresh t standing client p scope
+pub mayRequest : ℕ → List Issue → HandleText → Request → Bool
+mayRequest t standing p (Refused r) = false
+mayRequest t standing p (Code r) = false
+mayRequest t standing p (Exchange r) = mayExchange t standing p r
+mayRequest t standing p (Refresh r) = mayRefresh t standing p r
 
 pub may : Contents → Call → Bool
-may c (authorization query decision farm clock random output) = false
-may c (token h b clock random output) = mayRequest (max clock (c .highest)) (c .standing) (readToken sampleClients h b)
-may c (check presented clock) = mayPass (max clock (c .highest)) (c .standing) (readHandle presented)
+may c (authorization query decision farm handed) = false
+may c (token h b handed) =
+    let reading = readToken sampleClients h b in mayRequest (max (handed .clock) (c .highest)) (c .standing) (reading .presented) (reading .request)
+may c (check shown clock) = mayPass (max clock (c .highest)) (c .standing) (readHandle shown)
 
 -- what calls contain, over the sample clients
 unfoldable pub containedIn : List Call → Contents
-containedIn cs = contents sampleClients (eventsOn sampleClients fresh cs)
+containedIn cs = withEvents sampleClients nothingYet (eventsOn sampleClients fresh cs)
 
 pub agrees : Case → Bool
 agrees k =
@@ -155,14 +160,16 @@ agrees k =
 
 -- ---- what some calls contain
 
--- the code that `authorizeAt` issues at the time t
+-- what `authorizeAt` asks for, and the code that it issues at the time t
+unfoldable pub asksCode : CodeRequest
+asksCode = record { client = 0; farm = 7; scope = 11; bound = true }
+
 unfoldable pub codeAt : ℕ → ℕ → Issue
-codeAt t first = codeIssue t (countUp 20 first) 0 7 11 true
+codeAt t first = codeIssue t (countUp 20 first) asksCode
 
 pub contain : List Contents
 contain =
-    containedIn visit
-    ∷ containedIn later
+    containedIn later
     ∷ containedIn (night ++ exchangeAt 1100 ∷ authorizeAt 1100 100 ∷ [])  -- "A code issued next with clock 1100 expires at 2200."
     ∷ containedIn (authorizeAt 1000 0 ∷ authorizeAt 1000 100 ∷ [])  -- "Identical requests are never merged: two grants, two codes."
     ∷ []
@@ -182,29 +189,42 @@ wordOn cs c = wordIn (answerOn sampleClients (leftByAll sampleClients fresh cs) 
 unfoldable pub presented : HandleText
 presented = readHandle (bytes "000102030405060708090a0b0c0d0e0f10111213")
 
+-- its exchange
+unfoldable pub asksTokens : ExchangeRequest
+asksTokens = record { client = 0; again = true }
+
 pub beside : ℕ → List Issue
-beside n = codeAt 1000 0 ∷ replicate n (accessIssue 1000 (replicate 20 9) 0 7 11)
+beside n = codeAt 1000 0 ∷ replicate n (tokenIssue access 1000 (replicate 20 9) (codeAt 1000 0) 11)
 
 -- the same by the slots of a store, with so many free
 pub slotsBeside : ℕ → List Slot
 slotsBeside n =
-    newSlot 1000 kindBoundCode (countUp 20 0) 0 7 11
-    ∷ replicate 510 (newSlot 1000 kindAccess (replicate 20 9) 0 7 11)
-    ++ replicate n freeSlot
+    let s = newCode 1000 (countUp 20 0) asksCode in
+    s ∷ replicate 510 (tokenOn s 1000 kindAccess (replicate 20 9) 11) ++ replicate n freeSlot
+
+pub beforeTokens : List Slot → Decision
+beforeTokens slots = decisionOn (exchangePlan 1001 slots (countUp 40 0x20) presented asksTokens)
 
 -- ---- all that, computed
 
 pub record Computed : Type 0 where
   pub cases-agree : every agrees cases ≡ true
-  pub visit-contains : containedIn visit ≡ record { highest = 1000; standing = codeAt 1000 0 ∷ [] }
+  pub visit-contains : containedIn visit ≡ record { highest = 1000; standing = codeAt 1000 0 ∷ []; randoms = countUp 20 0 ∷ [] }
   pub calls-contain : contain
-      ≡ record { highest = 1000; standing = codeIssue 1000 (countUp 20 0) 0 7 11 true ∷ [] }
-      ∷ record {
+      ≡ record {
         highest = 1500;
-        standing = refreshIssue 1500 (countUp 20 0x34) 0 7 11 ∷ accessIssue 1500 (countUp 20 0x20) 0 7 11 ∷ [];
+        standing =
+            tokenIssue refresh 1500 (countUp 20 0x34) (codeAt 1000 0) 11
+            ∷ tokenIssue access 1500 (countUp 20 0x20) (codeAt 1000 0) 11
+            ∷ [];
+        randoms = countUp 20 0x20 ∷ countUp 20 0x34 ∷ countUp 20 0 ∷ [];
       }
-      ∷ record { highest = 1600; standing = codeAt 1600 100 ∷ codeAt 1000 0 ∷ [] }
-      ∷ record { highest = 1000; standing = codeAt 1000 100 ∷ codeAt 1000 0 ∷ [] }
+      ∷ record {
+        highest = 1600;
+        standing = codeAt 1600 100 ∷ codeAt 1000 0 ∷ [];
+        randoms = countUp 20 100 ∷ countUp 20 0x20 ∷ countUp 20 0x34 ∷ countUp 20 0 ∷ [];
+      }
+      ∷ record { highest = 1000; standing = codeAt 1000 100 ∷ codeAt 1000 0 ∷ []; randoms = countUp 20 100 ∷ countUp 20 0 ∷ [] }
       ∷ []
   pub expires : codeAt 1600 100 .expiry ≡ 2200
   pub in-time : wordOn visit (exchangeAt 1599) ≡ Grant
@@ -213,18 +233,17 @@ pub record Computed : Type 0 where
   pub wider : wordOn later (tokenAt header (refreshFor (bytes "&scope=power+pump")) 1510 0x60) ≡ Refuse (Token InvalidScope)
   pub named : answerOn sampleClients (leftByAll sampleClients fresh later) (check accessText 1510)
       ≡ checkAnswer (Live (record { client = 0; farm = 7; scope = 11; left = 3590 }))
-  pub may-1599 : mayExchange 1599 (codeAt 1000 0 ∷ []) 0 presented true ≡ true
-  pub not-1600 : mayExchange 1600 (codeAt 1000 0 ∷ []) 0 presented true ≡ false
-  pub just-room : mayExchange 1001 (beside 510) 0 presented true ≡ true
-  pub no-room : mayExchange 1001 (beside 511) 0 presented true ≡ false
-  pub just-free : decide 1001 (slotsBeside 1) (countUp 40 0x20) (exchange 0 presented true) ≡ Grant
-  pub none-free : decide 1001 (slotsBeside 0) (countUp 40 0x20) (exchange 0 presented true) ≡ Refuse (Failed NoRoom)
+  pub may-1599 : mayExchange 1599 (codeAt 1000 0 ∷ []) presented asksTokens ≡ true
+  pub not-1600 : mayExchange 1600 (codeAt 1000 0 ∷ []) presented asksTokens ≡ false
+  pub room-asked : mayExchange 1001 (beside 510) presented asksTokens ∷ mayExchange 1001 (beside 511) presented asksTokens ∷ []
+      ≡ true ∷ false ∷ []
+  pub room-found : beforeTokens (slotsBeside 1) ∷ beforeTokens (slotsBeside 0) ∷ [] ≡ Grant ∷ Refuse (Failed NoRoom) ∷ []
   -- what the exchange is read as, and the random bytes of it and of the visit
-  pub read : readToken sampleClients header body ≡ asks (exchange 0 presented true)
-  pub randoms : distinct (twenties (exchangeAt 0) ++ twentiesSeen (eventsOn sampleClients fresh visit)) ≡ true
+  pub read : readToken sampleClients header body ≡ record { request = Exchange asksTokens; presented = presented }
+  pub randoms : distinct (twenties (exchangeAt 0) ++ containedIn visit .randoms) ≡ true
 
 pub computed : Computed
-unfolding slotsBeside agrees cases yields mayRequest may contain wordIn wordOn presented beside containedIn codeAt countUp authorizeAt header body tokenAt exchangeAt withoutRedirect byBarnapp refreshFor accessText refreshText visit later night asked randomOf answerOn leftByAll eventsOn contents withEvents withEvent isUnfit isUnfitDecision isUnfitRefusal isUnfitCheck isGranted clockOf afterCall afterGrant issuedBy isEndedBy noIssue isWithinGranted askedOr mayExchange mayRefresh mayPass isLiveAnswer twenties twentiesSeen distinct keep count any firstOr replaceFirst freeSlot fresh every same indexOf splitOn grow hexValue readHandle isHandleText unhex isBase64 base64Bytes groupBytes soundGroup sextet none decodeAfter firstByte extra isEscape plain wellFormed sound isWellFormedForm nameOf pieceValue gives add valueIn formValue names bitFrom bitOf union readScope numberOf sampleClients sampleConfidential samplePublic isGrant isMissing isRepeated valueOf isOnce askedBy scopeAsked fits scopeGiven isBadQuery queryClient isBadClient isBadRedirect isSoundState isBadState isInvalidRequest isOtherType isInvalidScope readAuthorization isInvalidBody lowerCase sameAnyCase credentials isBadHeader headerId headerSecret presentedId presentedSecret isUnclearId isImpostor callClient isInvalidClient readToken refuseIf decide decideReading granted denied slotsAfter checkSlots authorizationServed tokenServed
+unfolding slotsBeside beforeTokens agrees cases yields mayRequest may contain wordIn wordOn presented beside containedIn asksCode asksTokens codeAt countUp rfcQuery handedAt authorizeAt header body tokenAt exchangeAt withoutRedirect byBarnapp refreshFor accessText refreshText visit later night handedTo asked outcomeOn leftByAll eventsOn withEvents withEvent isUnfit isUnfitDecision isUnfitRefusal isUnfitCheck isGranted afterGrant issuedBy isEndedBy noIssue isWithinGranted askedOr mayExchange mayRefresh mayPass isLiveCheck isLiveAnswer twenties distinct keep count any firstOr replaceFirst freeSlot fresh every same indexOf splitOn grow hexValue readHandle isHandleText unhex isBase64 base64Bytes groupBytes soundGroup sextet none decodeAfter firstByte extra isEscape plain wellFormed sound isWellFormedForm pieceName pieceValue gives add valueIn formValue names bitFrom bitOf union readScope indexWhere sampleClients sampleConfidential samplePublic isGrant isMissing isRepeated onlyValue isOnce askedBy scopeAsked fits scopeGiven isBadQuery queryClient isBadClient isBadRedirect isSoundState isBadState isInvalidRequest isOtherType isInvalidScope codeAsked pageReasons redirectReasons readAuthorization isInvalidForm lowerCase sameAnyCase credentials isBadHeader headerId headerSecret presentedId presentedSecret isUnclearId isImpostor callClient isInvalidClient formReasons readExchange readRefresh readGrant readToken firstOf unlessRefused refusedPlan codePlan exchangePlan refreshPlan planFor slotsBy checkSlots serveAuthorization serveToken serveCheck
 computed = record {
   cases-agree = refl;
   visit-contains = refl;
@@ -237,10 +256,8 @@ computed = record {
   named = refl;
   may-1599 = refl;
   not-1600 = refl;
-  just-room = refl;
-  no-room = refl;
-  just-free = refl;
-  none-free = refl;
+  room-asked = refl;
+  room-found = refl;
   read = refl;
   randoms = refl;
 }

@@ -2,75 +2,80 @@
 --
 -- That is said by all tests at once: as many live slots pass a test as live issues do. So a look-up, the room that is left, and
 -- what a slot holds are each that law at one test; time passes by putting the later liveness into the test; and a change of one
--- slot is arithmetic on counts. Issues stand here as the slots that hold them (`held` of Facts).
+-- slot is arithmetic on counts.
 --
--- In order: the invariant; what keeps it (time, more random bytes, an issue, what is withdrawn); what it says of a look-up by a
--- handle that came once, and of the room that is left.
+-- In order: the invariant; what keeps it (time, more random bytes, an issue, what is withdrawn), and the room that is left; what it
+-- says of a look-up by a handle that came once.
 -- Assumes nothing.
-use mathlib.Core.Path.{_≡_, refl, sym, ap, _∙_}
-use mathlib.Core.Bool.{Bool, true, false, not, _&&_, and-assoc, and-true}
+use mathlib.Core.Path.{_≡_, refl, sym, ap, _∙_, fun-ext}
+use mathlib.Core.Bool.{Bool, true, false, not, _&&_, and-assoc, and-true, and-false}
 use mathlib.Core.List.{List, [], _∷_, List·Memᴰ}
 use Prim.Native.Nat.{ℕ, _+_, _≤_}
 use native.Mathlib.Omega.{arith}
-use borrow.Author.Tests.{ltb-true, lt-ltb, not-true}
+use borrow.Author.Tests.{ltb-true, lt-ltb, le-ltb, not-true}
 use lib.Dec.{ltb}
 use lib.ListN.{length, replicate, length-replicate}
 use Rattle.octets.specs.Lists.{same}
-use Rattle.octets.proofs.Booleans.{and-left, and-right}
-use Rattle.token_store.specs.Search.{bit, count, any, firstOr, replaceFirst, replaceAll, keep}
-use Rattle.token_store.specs.Store.{isUsed, isLive, isVacant, holds, freeSlot}
+use Rattle.octets.proofs.Booleans.{and-swap, and-right}
+use Rattle.encoding.specs.declared.HandleText.{HandleText}
+use Rattle.token_store.specs.Layout.{slotCount}
+use Rattle.octets.specs.Search.{bit, count, any, firstOr, replaceFirst, replaceAll, keep}
+use Rattle.token_store.specs.Store.{issue, isUsed, isLive, isVacant, holds, soughtKey, freeSlot}
 use Rattle.token_store.specs.declared.Slot.{Slot}
-use Rattle.history.specs.Contents.{NeverTwice}
-use Rattle.history.proofs.Counting.{bit-some, bit-implies, count-ext, count-le, count-and, count-not, count-replicate, count-member, count-keep, any-count, any-some, firstOr-passes, count-firstOr, length-replaceFirst, count-replaceFirst, length-replaceAll, count-replaceAll, replaceFirst-replaceAll}
-use Rattle.history.proofs.Facts.{and-both, and-swap, sameSlot, sameSlot-refl, sameSlot-eq}
+use Rattle.token_store.proofs.Slots.{key-holds}
+use Rattle.protocol.specs.Granting.{shownSlot, room}
+use Rattle.history.specs.Contents.{Sort, Issue, isA, isLiveAt, isOf, noIssue, originOf, NeverTwice}
+use Rattle.octets.proofs.Counting.{bit-some, bit-implies, count-ext, count-le, count-and, count-not, count-replicate, count-member, count-keep, any-count, any-some, firstOr-passes, count-firstOr, length-replaceFirst, count-replaceFirst, length-replaceAll, count-replaceAll, replaceFirst-replaceAll}
+use Rattle.history.proofs.HeldIssues.{held, sought, held-live, held-key, tests-tell}
 
--- n slots at the time t, the slots of the issues that stand, and the random bytes of the calls seen
-pub record Invariant (n t : ℕ) (slots issues : List Slot) (seen : List (List ℕ)) : Type 0 where
-  pub size : length slots ≡ n
+-- the slots at the time t, the issues that stand, and the random bytes of the calls seen
+pub record Invariant (t : ℕ) (slots : List Slot) (standing : List Issue) (seen : List (List ℕ)) : Type 0 where
+  pub size : length slots ≡ slotCount
   -- the live slots and the live issues are one bag
-  pub bag : (p : Slot → Bool) → count (λ s. isLive t s && p s) slots ≡ count (λ s. isLive t s && p s) issues
+  pub bag : (p : Slot → Bool) → count (λ s. isLive t s && p s) slots ≡ count (λ e. isLiveAt t e && p (held e)) standing
   -- a handle is in no more slots, and in no more issues, than it came by calls
   pub inSlots : (h : List ℕ) → count (holds h) slots ≤ count (same h) seen
-  pub inIssues : (h : List ℕ) → count (holds h) issues ≤ count (same h) seen
+  pub inIssues : (h : List ℕ) → count (λ e. holds h (held e)) standing ≤ count (same h) seen
 
-pub invariant-fresh : (n : ℕ) → Invariant n 0 (replicate n freeSlot) [] []
+pub invariant-fresh : Invariant 0 (replicate slotCount freeSlot) [] []
 unfolding count freeSlot
-invariant-fresh n = record {
-  size = length-replicate n freeSlot;
-  bag = λ p. count-replicate (λ s. isLive 0 s && p s) freeSlot n refl;
-  inSlots = λ h. omega (arith, count-replicate (holds h) freeSlot n refl);
+invariant-fresh = record {
+  size = length-replicate slotCount freeSlot;
+  bag = λ p. count-replicate (λ s. isLive 0 s && p s) freeSlot slotCount refl;
+  inSlots = λ h. omega (arith, count-replicate (holds h) freeSlot slotCount refl);
   inIssues = λ h. omega arith;
 }
 
--- ---- time goes on
+-- what is live at u is live at an earlier t
+live-later : (t u x : ℕ) (c : Bool) → t ≤ u → (ltb u x && c) ≡ (ltb t x && (ltb u x && c))
+live-later t u x c h = by (ltb u x) refl
+  where
+    by : (b : Bool) → ltb u x ≡ b → (b && c) ≡ (ltb t x && (b && c))
+    by true e = rw (lt-ltb t x (omega (arith, ltb-true u x e)))
+    by false e = sym (and-false (ltb t x))
 
-later : (u a b c : Bool) → (b ≡ true → a ≡ true) → (u && b && c) ≡ (u && a && (u && b && c))
-later false a b c f = refl
-later true a true c f = rw (f refl)
-later true true false c f = refl
-later true false false c f = refl
+module _ {t : ℕ} {slots : List Slot} {standing : List Issue} {seen : List (List ℕ)} (v : Invariant t slots standing seen) where
+  -- ---- time goes on
 
-live-later : (t u : ℕ) (p : Slot → Bool) (s : Slot) → t ≤ u → (isLive u s && p s) ≡ (isLive t s && (isLive u s && p s))
-live-later t u p s h =
-    later (isUsed s) (ltb t (s .expiry)) (ltb u (s .expiry)) (p s)
-    (λ e. lt-ltb t (s .expiry) (omega (arith, ltb-true u (s .expiry) e)))
-
-module _ {n t : ℕ} {slots issues : List Slot} {seen : List (List ℕ)} (v : Invariant n t slots issues seen) where
-  pub invariant-later : (u : ℕ) → t ≤ u → Invariant n u slots issues seen
-  invariant-later u h =
-      let then : (l : List Slot) (p : Slot → Bool) → count (λ s. isLive u s && p s) l ≡ count (λ s. isLive t s && (isLive u s && p s)) l =
-      λ l p. count-ext (λ s. isLive u s && p s) (λ s. isLive t s && (isLive u s && p s)) l (λ s. live-later t u p s h)
-      in
-      record {
-        size = v .size;
-        bag = λ p. then slots p ∙ v .bag (λ s. isLive u s && p s) ∙ sym (then issues p);
-        inSlots = v .inSlots;
-        inIssues = v .inIssues;
-      }
+  pub invariant-later : (u : ℕ) → t ≤ u → Invariant u slots standing seen
+  invariant-later u h = record {
+    size = v .size;
+    bag = λ p.
+        count-ext (λ s. isLive u s && p s) (λ s. isLive t s && (isLive u s && p s)) slots (λ s. by (isUsed s) (s .expiry) (p s))
+        ∙ v .bag (λ s. isLive u s && p s)
+        ∙ count-ext (λ e. isLiveAt t e && (isLive u (held e) && p (held e))) (λ e. isLiveAt u e && p (held e)) standing
+        (λ e. rw (held-live u e) (sym (live-later t u (e .expiry) (p (held e)) h)));
+    inSlots = v .inSlots;
+    inIssues = v .inIssues;
+  }
+    where
+      by : (used : Bool) (x : ℕ) (c : Bool) → (used && ltb u x && c) ≡ (used && ltb t x && (used && ltb u x && c))
+      by true x c = live-later t u x c h
+      by false x c = refl
 
   -- ---- more random bytes came
 
-  pub invariant-seen : (more : List (List ℕ)) → ((h : List ℕ) → count (same h) seen ≤ count (same h) more) → Invariant n t slots issues more
+  pub invariant-seen : (more : List (List ℕ)) → ((h : List ℕ) → count (same h) seen ≤ count (same h) more) → Invariant t slots standing more
   invariant-seen more f = record {
     size = v .size;
     bag = v .bag;
@@ -80,12 +85,11 @@ module _ {n t : ℕ} {slots issues : List Slot} {seen : List (List ℕ)} (v : In
 
   -- ---- one issue more, in a vacant slot
 
-  pub invariant-issue : (x : Slot) → 1 ≤ count (isVacant t) slots
-      → Invariant n t (replaceFirst (isVacant t) x slots) (x ∷ issues) (x .handle ∷ seen)
+  pub invariant-issue : (x : Issue) → 1 ≤ room t slots → Invariant t (issue t (held x) slots) (x ∷ standing) (x .handle ∷ seen)
   unfolding count
   invariant-issue x h = record {
-    size = length-replaceFirst (isVacant t) x slots ∙ v .size;
-    bag = λ p. omega (arith, put (λ s. isLive t s && p s), gone p, v .bag p);
+    size = length-replaceFirst (isVacant t) (held x) slots ∙ v .size;
+    bag = λ p. omega (arith, put (λ s. isLive t s && p s), gone p, v .bag p, ap (λ (b : Bool). bit (b && p (held x))) (held-live t x));
     inSlots = λ k. omega (arith, put (holds k), new k, v .inSlots k);
     inIssues = λ k. omega (arith, new k, v .inIssues k);
   }
@@ -96,122 +100,105 @@ module _ {n t : ℕ} {slots issues : List Slot} {seen : List (List ℕ)} (v : In
       some : any (isVacant t) slots ≡ true
       some = any-some (isVacant t) slots h
 
-      put : (q : Slot → Bool) → count q (replaceFirst (isVacant t) x slots) + bit (q old) ≡ count q slots + bit (q x)
-      put q = rw some at (count-replaceFirst q (isVacant t) x freeSlot slots)
+      put : (q : Slot → Bool) → count q (issue t (held x) slots) + bit (q old) ≡ count q slots + bit (q (held x))
+      put q = rw some at (count-replaceFirst q (isVacant t) (held x) freeSlot slots)
 
       gone : (p : Slot → Bool) → bit (isLive t old && p old) ≡ 0
       gone p = rw (not-true (isLive t old) (firstOr-passes (isVacant t) freeSlot slots some))
 
-      new : (k : List ℕ) → bit (holds k x) ≤ bit (same k (x .handle))
-      new k = bit-implies (holds k x) (same k (x .handle)) (and-right (isUsed x) (same k (x .handle)))
+      new : (k : List ℕ) → bit (holds k (held x)) ≤ bit (same k (x .handle))
+      new k = bit-implies (holds k (held x)) (same k (x .handle)) (and-right (isUsed (held x)) (same k (x .handle)))
 
   -- ---- those that pass k are withdrawn
 
-  pub invariant-withdraw : (k : Slot → Bool) → Invariant n t (replaceAll freeSlot k slots) (keep (λ s. not (k s)) issues) seen
+  invariant-withdraw : (k : Slot → Bool) → Invariant t (replaceAll freeSlot k slots) (keep (λ e. not (k (held e))) standing) seen
   unfolding freeSlot
   invariant-withdraw k = record {
     size = length-replaceAll freeSlot k slots ∙ v .size;
     bag = λ p.
-        count-replaceAll (λ s. isLive t s && p s) k freeSlot slots refl
-        ∙ regroup slots p ∙ v .bag (λ s. p s && not (k s)) ∙ sym (regroup issues p)
-        ∙ sym (count-keep (λ s. isLive t s && p s) (λ s. not (k s)) issues);
+        let left : Issue → Bool = λ e. not (k (held e)) in
+        rw (count-replaceAll (λ s. isLive t s && p s) k freeSlot slots refl, count-keep (λ e. isLiveAt t e && p (held e)) left standing)
+        (simp and-assoc (simp and-assoc at (v .bag (λ s. p s && not (k s)))));
     inSlots = λ h. omega (arith, count-replaceAll (holds h) k freeSlot slots refl, count-and (holds h) (λ s. not (k s)) slots, v .inSlots h);
-    inIssues = λ h. omega (arith, count-keep (holds h) (λ s. not (k s)) issues, count-and (holds h) (λ s. not (k s)) issues, v .inIssues h);
+    inIssues = λ h.
+        let here : Issue → Bool = λ e. holds h (held e) in
+        let left : Issue → Bool = λ e. not (k (held e)) in
+        omega (arith, count-keep here left standing, count-and here left standing, v .inIssues h);
   }
-    where
-      regroup : (l : List Slot) (p : Slot → Bool)
-          → count (λ s. isLive t s && p s && not (k s)) l ≡ count (λ s. isLive t s && (p s && not (k s))) l
-      regroup l p =
-          count-ext (λ s. isLive t s && p s && not (k s)) (λ s. isLive t s && (p s && not (k s))) l
-          (λ s. and-assoc (isLive t s) (p s) (not (k s)))
 
   -- ---- the room that is left
 
-  pub room-left : count (isVacant t) slots + count (isLive t) issues ≡ n
-  room-left = omega (arith, count-not (isLive t) slots, v .size, all)
-    where
-      plain : (l : List Slot) → count (λ s. isLive t s && true) l ≡ count (isLive t) l
-      plain l = count-ext (λ s. isLive t s && true) (isLive t) l (λ s. and-true (isLive t s))
+  pub room-left : room t slots + count (isLiveAt t) standing ≡ slotCount
+  room-left = omega (arith, count-not (isLive t) slots, v .size, simp and-true at (v .bag (λ s. true)))
 
-      all : count (isLive t) slots ≡ count (isLive t) issues
-      all = sym (plain slots) ∙ v .bag (λ s. true) ∙ plain issues
+  -- ---- a look-up, where no random bytes came twice
 
-  -- ---- look-ups: k picks only slots in use, of the handle h, and no random bytes came twice
-
-  module _ (once : NeverTwice seen) (k : Slot → Bool) (h : List ℕ) (key : (s : Slot) → bit (k s) ≤ bit (holds h s)) where
-    pub one-slot : count k slots ≤ 1
-    one-slot = omega (arith, count-le k (holds h) slots key, v .inSlots h, once h)
-
-    pub one-issue : count k issues ≤ 1
-    one-issue = omega (arith, count-le k (holds h) issues key, v .inIssues h, once h)
-
-    -- the counts under k are decided by the one slot, and the one issue, that is found
-    found-count : (l : List Slot) → count k l ≤ 1 → (g : Slot → Bool)
-        → count (λ s. isLive t s && (k s && g s)) l ≡ bit (isLive t (firstOr freeSlot k l) && g (firstOr freeSlot k l))
-    unfolding freeSlot
-    found-count l one g =
-        count-ext (λ s. isLive t s && (k s && g s)) (λ s. k s && (isLive t s && g s)) l (λ s. and-swap (isLive t s) (k s) (g s))
-        ∙ count-firstOr k (λ s. isLive t s && g s) freeSlot l one refl
+  module _ (once : NeverTwice seen) (sort : Sort) (p : HandleText) where
+    abbrev key : Slot → Bool
+    key = soughtKey (sought sort) p
 
     abbrev slot : Slot
-    slot = firstOr freeSlot k slots
+    slot = shownSlot (sought sort) p slots
 
-    -- the calls contain a live issue of this handle with g exactly when the slot found is live and has g
-    pub contained : (g : Slot → Bool) → any (λ s. isLive t s && (k s && g s)) issues ≡ (isLive t slot && g slot)
-    contained g =
-        any-count (λ s. isLive t s && (k s && g s)) (isLive t slot && g slot) issues
-        (sym (v .bag (λ s. k s && g s)) ∙ found-count slots one-slot g)
+    taken : (s : Slot) → bit (key s) ≤ bit (holds (p .bytes) s)
+    taken s = bit-implies (key s) (holds (p .bytes) s) (key-holds (sought sort) p s)
 
-    -- a live issue of this handle is what the slot found holds
-    pub found : (e : Slot) → List·Memᴰ e issues → isLive t e ≡ true → k e ≡ true → slot ≡ e
-    found e m live here =
-        sym (sameSlot-eq e slot (and-right (isLive t slot) (sameSlot e slot) (bit-some (isLive t slot && sameSlot e slot) some)))
-      where
-        there : 1 ≤ count (λ s. isLive t s && (k s && sameSlot e s)) issues
-        there = count-member (λ s. isLive t s && (k s && sameSlot e s)) e m (and-both live (and-both here (sameSlot-refl e)))
+    one-slot : count key slots ≤ 1
+    one-slot = omega (arith, count-le key (holds (p .bytes)) slots taken, v .inSlots (p .bytes), once (p .bytes))
 
-        some : 1 ≤ bit (isLive t slot && sameSlot e slot)
-        some = omega (arith, there, v .bag (λ s. k s && sameSlot e s), found-count slots one-slot (sameSlot e))
-
-    -- where the slot found is live, it holds the issue found
-    module _ (live : isLive t slot ≡ true) where
-      issue-found : 1 ≤ bit (isLive t (firstOr freeSlot k issues) && sameSlot slot (firstOr freeSlot k issues))
-      issue-found =
-          omega (
-            arith,
-            ap bit (and-both live (sameSlot-refl slot)),
-            v .bag (λ s. k s && sameSlot slot s),
-            found-count slots one-slot (sameSlot slot),
-            found-count issues one-issue (sameSlot slot),
-          )
-
-      pub issue-slot : firstOr freeSlot k issues ≡ slot
-      issue-slot =
-          let o = firstOr freeSlot k issues in
-          sym (sameSlot-eq slot o (and-right (isLive t o) (sameSlot slot o) (bit-some (isLive t o && sameSlot slot o) issue-found)))
-
-      pub issue-there : any k issues ≡ true
-      issue-there =
-          any-some k issues
-          (omega (
-            arith,
-            ap bit (and-both live refl),
-            v .bag (λ s. k s && true),
-            found-count slots one-slot (λ s. true),
-            count-le (λ s. isLive t s && (k s && true)) k issues
-                (λ s. bit-implies (isLive t s && (k s && true)) (k s) (λ e. and-left (k s) true (and-right (isLive t s) (k s && true) e))),
-          ))
-
-    -- the room that is left when the slot found is cleared
-    pub room-without : count (isVacant t) (replaceFirst k freeSlot slots) + count (λ s. isLive t s && not (k s)) issues ≡ n
-    unfolding freeSlot
-    room-without =
+    one-issue : count (λ e. key (held e)) standing ≤ 1
+    one-issue =
         omega (
           arith,
-          count-not (isLive t) (replaceFirst k freeSlot slots),
-          length-replaceFirst k freeSlot slots,
-          v .size,
-          v .bag (λ s. not (k s)),
-          ap (count (isLive t)) (replaceFirst-replaceAll freeSlot k slots one-slot),
-          count-replaceAll (isLive t) k freeSlot slots refl,
+          count-le (λ e. key (held e)) (λ e. holds (p .bytes) (held e)) standing (λ e. taken (held e)),
+          v .inIssues (p .bytes),
+          once (p .bytes),
         )
+
+    -- the live issues that it takes are counted by the slot that it finds
+    counted : (g : Slot → Bool) → count (λ e. isLiveAt t e && (key (held e) && g (held e))) standing ≡ bit (isLive t slot && g slot)
+    unfolding freeSlot
+    counted g =
+        sym (v .bag (λ s. key s && g s))
+        ∙ count-ext (λ s. isLive t s && (key s && g s)) (λ s. key s && (isLive t s && g s)) slots (λ s. and-swap (isLive t s) (key s) (g s))
+        ∙ count-firstOr key (λ s. isLive t s && g s) freeSlot slots one-slot refl
+
+    -- the calls contain a live issue of this handle with g exactly when the slot found is live and has g
+    pub contained : (g : Slot → Bool) (r : Issue → Bool) → ((e : Issue) → (isLiveAt t e && (key (held e) && g (held e))) ≡ r e)
+        → any r standing ≡ (isLive t slot && g slot)
+    contained g r agree =
+        any-count r (isLive t slot && g slot) standing
+        (sym (count-ext (λ e. isLiveAt t e && (key (held e) && g (held e))) r standing agree) ∙ counted g)
+
+    passes : (g : Slot → Bool) → 1 ≤ count (λ e. isLiveAt t e && (key (held e) && g (held e))) standing → g slot ≡ true
+    passes g h = and-right (isLive t slot) (g slot) (bit-some (isLive t slot && g slot) (omega (arith, counted g)))
+
+    -- a live issue of this handle is what the slot found holds
+    pub found : (e : Issue) → List·Memᴰ e standing → isLiveAt t e ≡ true → (isA sort e && isOf p e) ≡ true → slot ≡ held e
+    found e m live here =
+        sym (tests-tell (held e) slot
+        (λ g h. passes g (count-member (λ x. isLiveAt t x && (key (held x) && g (held x))) e m (rw (live, held-key p sort e ∙ here) h))))
+
+    -- where the slot found is live, it holds the issue found
+    pub origin : isLive t slot ≡ true → held (originOf sort p standing) ≡ slot
+    unfolding noIssue
+    origin live = rw (← (fun-ext (held-key p sort))) (sym (tests-tell slot (held o) shown))
+      where
+        o : Issue
+        o = firstOr noIssue (λ e. key (held e)) standing
+
+        tested : (g : Slot → Bool) → count (λ e. isLiveAt t e && (key (held e) && g (held e))) standing ≡ bit (isLiveAt t o && g (held o))
+        tested g =
+            count-ext (λ e. isLiveAt t e && (key (held e) && g (held e))) (λ e. key (held e) && (isLiveAt t e && g (held e))) standing
+            (λ e. and-swap (isLiveAt t e) (key (held e)) (g (held e)))
+            ∙ count-firstOr (λ e. key (held e)) (λ e. isLiveAt t e && g (held e)) noIssue standing one-issue (rw (le-ltb t 0 (omega arith)))
+
+        shown : (g : Slot → Bool) → g slot ≡ true → g (held o) ≡ true
+        shown g h =
+            let one : bit (isLive t slot && g slot) ≡ 1 = rw (live, h) in
+            and-right (isLiveAt t o) (g (held o)) (bit-some (isLiveAt t o && g (held o)) (omega (arith, tested g, counted g)))
+
+    -- the one slot that it finds is cleared
+    pub withdrawn : Invariant t (replaceFirst key freeSlot slots) (keep (λ e. not (isA sort e && isOf p e)) standing) seen
+    withdrawn =
+        rw (replaceFirst-replaceAll freeSlot key slots one-slot, ← (fun-ext (λ e. ap not (held-key p sort e)))) (invariant-withdraw key)

@@ -1,19 +1,17 @@
 -- Demand 3, proved: the theorem is `demand3` in Theorem.
 --
--- Read Theorem first, then down: Runs (every list of calls), Serving (one call on bytes), Steps and Answers (one request on slots),
--- Invariant (the idea). Meaning says what it is to stand; Examples and Visit show that the claim is not empty.
-pub mod Replay
-pub mod Examples
-pub mod Counting
-pub mod Facts
+-- Read Theorem first, then down: AllCalls (every list of calls), AnyCall (one call on bytes), OneRequest (one request on slots),
+-- Invariant (the idea, over the slots of HeldIssues). Readings and SoundStores: what is read fits a slot, so that the store stays fit.
+-- Meaning says what it is to stand; Examples and Visit show that the claim is not empty, by CallsOnRecords.
+pub mod HeldIssues
 pub mod Invariant
-pub mod Decisions
-pub mod Steps
-pub mod Answers
 pub mod Readings
-pub mod Bytes
-pub mod Serving
-pub mod Runs
+pub mod OneRequest
+pub mod SoundStores
+pub mod AnyCall
+pub mod AllCalls
 pub mod Theorem
 pub mod Meaning
+pub mod CallsOnRecords
+pub mod Examples
 pub mod Visit

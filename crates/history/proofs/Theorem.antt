@@ -1,245 +1,214 @@
 -- Demand 3: the one claim about every list of calls (`demand3`).
 --
--- In order: the clients of a fit registry; what a call is answered over a store that belongs to what the calls contain, endpoint by
--- endpoint; the claim where the registry is fit, and where it is not (then every call is refused with 2 at the latest, so that none
--- is judged and none changes a byte); the theorem.
+-- A call that is judged is past refusals 1 to 4, so it is served on the store that the calls before it left, and that store belongs to
+-- what they contain (`kept-all`). So what it is answered is what its request is answered there (`exchange-answer` and its siblings).
+--
+-- In order: a call that is judged; the token endpoint; the check; a refused try; the theorem.
 -- Assumes nothing.
 use mathlib.Core.Path.{_≡_, refl, sym, ap, ap₂, _∙_}
-use mathlib.Core.Bool.{Bool, true, false, false≢true}
-use mathlib.Core.List.{List, [], _∷_, _++_, map, List·Memᴰ}
-use Prim.Native.Nat.{ℕ, _-_, _≤_, max}
+use mathlib.Core.Bool.{true, false, _&&_, false≢true}
+use mathlib.Core.List.{List, [], _∷_, List·Memᴰ}
+use Prim.Native.Nat.{ℕ, _-_}
 use native.Mathlib.Omega.{arith}
 use lib.ListN.{length}
 use lib.Seq.{sets}
-use Rattle.octets.specs.Lists.{Bytes, part, same}
+use Rattle.octets.specs.Lists.{Bytes, part}
 use Rattle.encoding.specs.Hex.{readHandle}
 use Rattle.encoding.specs.declared.HandleText.{HandleText}
-use Rattle.client_registry.specs.Registry.{fitRegistry, clientsOf}
-use Rattle.client_registry.proofs.Clients.{fit-count, fit-client, scope-byte}
-use Rattle.token_store.specs.Layout.{slotCount, slotStart, slotSize}
-use Rattle.token_store.specs.Search.{bit, count}
-use Rattle.token_store.specs.Store.{encode, callTime}
+use Rattle.client_registry.specs.Registry.{clientsOf}
+use Rattle.token_store.specs.Layout.{slotStart, slotSize}
+use Rattle.token_store.specs.Store.{Store, decode}
 use Rattle.token_store.specs.declared.Slot.{Slot}
-use Rattle.protocol.specs.declared.ScopeAsked.{ScopeAsked}
 use Rattle.protocol.specs.declared.Decision.{Decision}
-use Rattle.protocol.specs.declared.TokenAnswer.{TokenAnswer}
-use Rattle.protocol.specs.declared.CheckAnswer.{CheckAnswer}
+use Rattle.protocol.specs.declared.Decision.the-variants.{Grant, Refuse}
+use Rattle.protocol.specs.declared.ExchangeRequest.{ExchangeRequest}
+use Rattle.protocol.specs.declared.RefreshRequest.{RefreshRequest}
+use Rattle.protocol.specs.declared.Request.{Request}
+use Rattle.protocol.specs.declared.Request.the-variants.{Exchange, Refresh}
+use Rattle.protocol.specs.declared.Reading.{Reading}
 use Rattle.protocol.specs.declared.CheckAnswer.the-variants.{Live}
 use Rattle.protocol.specs.Answers.{isGrant}
-use Rattle.protocol.specs.Requests.{scopeGiven, Request, exchange, refresh, Reading, asks}
-use Rattle.protocol.specs.Token.{readToken, tokenReply, refreshMember}
-use Rattle.protocol.specs.Granting.{firstHandle, secondHandle, codeSlot, refreshSlot, decide, decideReading, checkSlots}
-use Rattle.protocol.specs.Outcomes.{Outcome, tokenServed, tokenOutcome, checkOutcome, grantReply, replyText}
-use Rattle.history.specs.Calls.{Call, token, check, AllWellTyped, tokenAnswer, answerTo, storeAfter, storeAfterAll, events, freshStore, isUnfit}
-use Rattle.history.specs.Contents.{Issue, isAccess, isLiveAt, isOf, firstTwenty, lastTwenty, askedOr, originCode, originRefresh, clockOf, isGranted, Contents, contents, twenties, twentiesSeen, NeverTwice}
-use Rattle.history.specs.Claim.{mayExchange, mayRefresh, mayPass, isLiveAnswer, Judged, Demand3}
-use Rattle.history.proofs.Facts.{held}
-use Rattle.history.proofs.Invariant.{Invariant, invariant-later}
-use Rattle.history.proofs.Decisions.{is-grant, exchange-live, refresh-live}
-use Rattle.history.proofs.Steps.{given-asked, second-last, origin-code, origin-refresh}
-use Rattle.history.proofs.Answers.{exchange-answer, refresh-answer, check-passes, check-names}
-use Rattle.history.proofs.Readings.{AskedSet, within-granted, FitClients, Brings, token-brings}
-use Rattle.history.proofs.Bytes.{slots-same}
-use Rattle.history.proofs.Replay.{asked, randomOf, isPast, leftBy}
-use Rattle.history.proofs.Serving.{unstopped, token-admission, check-admission, Served, unseen, seen, serve, status-grant, granted-on, Sized, past-sized, refused-keeps, stops}
-use Rattle.history.proofs.Runs.{Stored, Kept, stored-fresh, stored-run, kept-all, never-tail}
+use Rattle.protocol.specs.Token.{tokenReply, refreshMember}
+use Rattle.protocol.specs.Granting.{Plan, firstHandle, secondHandle, exchangePlan, refreshPlan, planFor, planOf, decisionOn, slotsBy, slotsAfter, checkSlots}
+use Rattle.protocol.specs.Outcomes.{Handed, Outcome, replyText, serveToken, serveCheck}
+use Rattle.history.specs.Calls.{Call, token, check, handedTo, AllWellTyped, Answer, checkAnswer, isUnfit}
+use Rattle.history.specs.Contents.{code, access, refresh, Issue, isA, isLiveAt, isOf, firstTwenty, lastTwenty, askedOr, originOf, asked, isGranted, twenties, NeverTwice}
+use Rattle.history.specs.Claim.{mayExchange, mayRefresh, mayPass, isLiveAnswer, store, contained, standing, timeAt, next, Judged, Asks, Demand3}
+use Rattle.history.proofs.Invariant.{Invariant, invariant-later, origin}
+use Rattle.history.proofs.Readings.{AskedSet, TwoHandles, second-last, Brings, token-brings}
+use Rattle.history.proofs.OneRequest.{exchange-has, refresh-has, denied-slots, given-asked, exchange-answer, refresh-answer, check-passes, check-names}
+use Rattle.history.proofs.SoundStores.{slots-same}
+use Rattle.history.proofs.AnyCall.{outcomeOn, unfitTo, isPast, TakenCall, unseen, seen, seen-past, take, past-buffers, two-handles, leftBy, store-on, granted-on}
+use Rattle.history.proofs.AllCalls.{storeWith, Kept, kept-read, kept-all, never-tail}
 
--- ---- the clients of a fit registry
+pub is-grant : (d : Decision) → isGrant d ≡ true → d ≡ Grant
+unfolding isGrant
+is-grant Grant e = refl
+is-grant (Refuse r) e = absurd (false≢true e)
 
-pub clients-fit : (registry : List ℕ) → Bytes registry → fitRegistry registry ≡ true → FitClients (clientsOf registry)
-clients-fit registry bytes fit = record {
-  most = fit-count registry fit .most;
-  scope = λ n h. record { some = omega (arith, fit-client registry fit n h .scope-some); byte = scope-byte registry bytes n };
-}
+refused-keeps : (plan : Plan) → isGrant (decisionOn plan) ≡ false → slotsAfter plan ≡ plan .denied
+unfolding slotsBy isGrant
+refused-keeps plan = by (decisionOn plan)
+  where
+    by : (d : Decision) → isGrant d ≡ false → slotsBy d plan ≡ plan .denied
+    by Grant e = absurd (false≢true (sym e))
+    by (Refuse r) e = refl
 
--- ---- what a call is answered, over a store that belongs to what the calls contain
+module _ (registry : List ℕ) (bytes : Bytes registry) (cs : List Call) (typed : AllWellTyped cs) where
+  kept : Kept (length (clientsOf registry)) (store registry cs) (contained registry cs)
+  kept = kept-all registry bytes cs typed
 
-module _ (registry : List ℕ) (fit : fitRegistry registry ≡ true) {b : List ℕ} {c : Contents} {randoms : List (List ℕ)}
-    (v : Kept (length (clientsOf registry)) b c randoms) (clock : ℕ) where
+  -- the slots, and the store, that the calls left
   abbrev slots : List Slot
-  slots = v .read .slots
+  slots = kept .slots
 
-  abbrev t : ℕ
-  t = max clock (c .highest)
+  abbrev left : Store
+  left = storeWith (contained registry cs) slots
 
-  time-is : callTime (v .read) clock ≡ t
-  time-is = ap (max clock) (v .clock)
+  -- ---- a call that is judged
 
-  invariant-at : Invariant slotCount t slots (map held (c .standing)) randoms
-  invariant-at = invariant-later (v .inv) t (omega (arith, v .clock))
+  on-record : (c : Call) → next registry cs c ≡ outcomeOn (clientsOf registry) (decode (store registry cs)) c
+      → next registry cs c ≡ outcomeOn (clientsOf registry) (left) c
+  on-record c e = e ∙ ap (λ (g : Store). outcomeOn (clientsOf registry) g c) (kept-read kept)
+
+  served : (c : Call) → isUnfit (next registry cs c .answer) ≡ false
+      → (isPast registry (store registry cs) c ≡ true) × (next registry cs c ≡ outcomeOn (clientsOf registry) (left) c)
+  served c judged = let p = seen-past (take registry (store registry cs) c) judged in (p .0, on-record c (p .1))
+
+  invariant-at : (clock : ℕ) → NeverTwice (contained registry cs .randoms)
+      → Invariant (timeAt registry cs clock) slots (standing registry cs) (contained registry cs .randoms)
+  invariant-at clock once = invariant-later (kept .inv once) (timeAt registry cs clock) (omega arith)
 
   -- ---- the token endpoint
 
-  module _ (header body random output : List ℕ) (judged : isUnfit (answerTo registry b (token header body clock random output)) ≡ false)
-      (never : NeverTwice (twenties (token header body clock random output) ++ randoms)) where
-    served : (isPast (token header body clock random output) ≡ true)
-        × (tokenOutcome header body registry b clock random output ≡ tokenServed header body (clientsOf registry) (v .read) clock random output)
-    unfolding answerTo isPast
-    served =
-        rw (v .bytes) (unstopped (token-admission registry fit (v .read) (v .sound) header body clock random output) (rw (v .bytes) at judged))
+  module _ (header body : List ℕ) (handed : Handed) (p : HandleText) where
+    abbrev random : List ℕ
+    random = handed .random
 
-    forty : length random ≡ 40
-    unfolding Sized
-    forty = past-sized (token header body clock random output) (served .0) .0
+    abbrev t : ℕ
+    t = timeAt registry cs (handed .clock)
 
-    short : length random ≤ 40
-    short = omega (arith, forty)
+    abbrev done : Outcome Answer
+    done = next registry cs (token header body handed)
 
-    once : NeverTwice randoms
-    once = never-tail (twenties (token header body clock random output)) randoms never
+    abbrev plan : Request → Plan
+    plan request = planFor t slots random p request
 
-    new : NeverTwice (firstHandle random ∷ secondHandle random ∷ randoms)
-    unfolding twenties count
-    new h = omega (arith, never h, ap (λ (x : List ℕ). bit (same h x)) (second-last random short))
+    module _ {request : Request} (a : Asks registry cs header body handed p request) where
+      on : (isPast registry (store registry cs) (token header body handed) ≡ true)
+          × (done ≡ outcomeOn (clientsOf registry) left (token header body handed))
+      on = served (token header body handed) (a .judged .0)
 
-    module _ (request : Request) (reads : readToken (clientsOf registry) header body ≡ asks request) where
-      granted-is : isGranted (answerTo registry b (token header body clock random output)) ≡ isGrant (decide t slots random request)
-      unfolding answerTo isGranted tokenServed decideReading
+      once : NeverTwice (contained registry cs .randoms)
+      once = never-tail (twenties (token header body handed)) (contained registry cs .randoms) (a .judged .1)
+
+      two : TwoHandles random (twenties (token header body handed))
+      unfolding unfitTo twenties
+      two = two-handles handed (past-buffers registry (store registry cs) (token header body handed) (on .0))
+
+      new : NeverTwice (firstHandle random ∷ secondHandle random ∷ contained registry cs .randoms)
+      new = rw (two .handles) at (a .judged .1)
+
+      granted-is : isGranted (done .answer) ≡ isGrant (decisionOn (plan request))
+      unfolding asked handedTo
       granted-is =
-          ap (λ (o : Outcome TokenAnswer). isGranted (tokenAnswer (o .answer))) (served .1)
-          ∙ status-grant _
-          ∙ ap₂ (λ (u : ℕ) (r : Reading). isGrant (decideReading u slots random r)) time-is reads
+          ap (λ (o : Outcome Answer). isGranted (o .answer)) (on .1)
+          ∙ granted-on (clientsOf registry) (left) (token header body handed)
+          ∙ ap (λ (r : Reading). isGrant (decisionOn (planOf t slots random r))) (a .reads)
 
       -- the reply to a request that is granted
-      reply-is : isGranted (answerTo registry b (token header body clock random output)) ≡ true
-          → tokenOutcome header body registry b clock random output .output ≡ sets output 0 (grantReply slots random request)
-      unfolding tokenServed decideReading replyText
+      reply-is : isGranted (done .answer) ≡ true → done .output ≡ sets (handed .output) 0 (replyText random (plan request) Grant)
+      unfolding outcomeOn serveToken
       reply-is e =
-          ap (λ (o : Outcome TokenAnswer). o .output) (served .1)
-          ∙ ap₂ (λ (u : ℕ) (r : Reading). sets output 0 (replyText slots random r (decideReading u slots random r))) time-is reads
-          ∙ ap (λ (d : Decision). sets output 0 (replyText slots random (asks request) d)) (is-grant (decide t slots random request) (sym granted-is ∙ e))
+          ap (λ (o : Outcome Answer). o .output) (on .1)
+          ∙ ap (λ (r : Reading). let m = planOf t slots random r in sets (handed .output) 0 (replyText random m (decisionOn m))) (a .reads)
+          ∙ ap (λ (d : Decision). sets (handed .output) 0 (replyText random (plan request) d))
+          (is-grant (decisionOn (plan request)) (sym granted-is ∙ e))
 
-    module _ (client : ℕ) (p : HandleText) where
-      module _ (again : Bool) (reads : readToken (clientsOf registry) header body ≡ asks (exchange client p again)) where
-        exchange-claim : isGranted (answerTo registry b (token header body clock random output)) ≡ mayExchange t (c .standing) client p again
-        exchange-claim = granted-is (exchange client p again) reads ∙ exchange-answer (c .standing) invariant-at once random new client p again
+    module _ (r : ExchangeRequest) (a : Asks registry cs header body handed p (Exchange r)) where
+      exchange-claim : isGranted (done .answer) ≡ mayExchange t (standing registry cs) p r
+      exchange-claim = granted-is a ∙ exchange-answer (invariant-at (handed .clock) (once a)) (once a) p random (new a) r
 
-        exchange-reply : isGranted (answerTo registry b (token header body clock random output)) ≡ true
-            → tokenOutcome header body registry b clock random output .output
-            ≡ sets output 0 (tokenReply (firstTwenty random) (refreshMember (lastTwenty random)) (originCode p (c .standing) .scope))
-        unfolding grantReply
-        exchange-reply e =
-            let live = exchange-live t slots random client p again (sym (granted-is (exchange client p again) reads) ∙ e) .0 in
-            let from : codeSlot p slots .scope ≡ originCode p (c .standing) .scope =
-            ap (λ (s : Slot). s .scope) (sym (origin-code (c .standing) invariant-at once p live))
-            in
-            reply-is (exchange client p again) reads e
-            ∙ ap₂ (λ (h : List ℕ) (scope : ℕ). sets output 0 (tokenReply (firstTwenty random) (refreshMember h) scope)) (second-last random short) from
+      exchange-reply : isGranted (done .answer) ≡ true
+          → let scope = originOf code p (standing registry cs) .scope in
+          done .output ≡ sets (handed .output) 0 (tokenReply (firstTwenty random) (refreshMember (lastTwenty random)) scope)
+      unfolding replyText planFor exchangePlan
+      exchange-reply e =
+          let live = exchange-has t slots random p r (sym (granted-is a) ∙ e) .0 in
+          let from = origin (invariant-at (handed .clock) (once a)) (once a) code p live in
+          reply-is a e
+          ∙ ap₂ (λ (h : List ℕ) (s : Slot). sets (handed .output) 0 (tokenReply (firstTwenty random) (refreshMember h) (s .scope)))
+          (second-last random (two a .size)) (sym from)
 
-      module _ (scope : ScopeAsked) (reads : readToken (clientsOf registry) header body ≡ asks (refresh client p scope)) where
-        asked-set : AskedSet scope
-        unfolding Brings
-        asked-set = (rw reads at (token-brings (clientsOf registry) header body (length random) forty)) .1
+    module _ (r : RefreshRequest) (a : Asks registry cs header body handed p (Refresh r)) where
+      asked-set : AskedSet (r .scope)
+      unfolding Brings
+      asked-set = (rw (a .reads) at (token-brings (clientsOf registry) (two a) header body)) .1
 
-        refresh-claim : isGranted (answerTo registry b (token header body clock random output)) ≡ mayRefresh t (c .standing) client p scope
-        refresh-claim =
-            granted-is (refresh client p scope) reads
-            ∙ refresh-answer (c .standing) invariant-at once random new client p scope (within-granted scope asked-set)
+      refresh-claim : isGranted (done .answer) ≡ mayRefresh t (standing registry cs) p r
+      refresh-claim = granted-is a ∙ refresh-answer (invariant-at (handed .clock) (once a)) (once a) p random (new a) r asked-set
 
-        refresh-reply : isGranted (answerTo registry b (token header body clock random output)) ≡ true
-            → tokenOutcome header body registry b clock random output .output
-            ≡ sets output 0 (tokenReply (firstTwenty random) [] (askedOr scope (originRefresh p (c .standing) .scope)))
-        unfolding grantReply
-        refresh-reply e =
-            let live = refresh-live t slots random client p scope (sym (granted-is (refresh client p scope) reads) ∙ e) .0 in
-            let from : refreshSlot p slots .scope ≡ originRefresh p (c .standing) .scope =
-            ap (λ (s : Slot). s .scope) (sym (origin-refresh (c .standing) invariant-at once p live))
-            in
-            let given : scopeGiven scope (refreshSlot p slots .scope) ≡ askedOr scope (originRefresh p (c .standing) .scope) =
-            ap (scopeGiven scope) from ∙ given-asked scope (originRefresh p (c .standing) .scope)
-            in
-            reply-is (refresh client p scope) reads e ∙ ap (λ (set : ℕ). sets output 0 (tokenReply (firstTwenty random) [] set)) given
+      refresh-reply : isGranted (done .answer) ≡ true
+          → let scope = askedOr (r .scope) (originOf refresh p (standing registry cs) .scope) in
+          done .output ≡ sets (handed .output) 0 (tokenReply (firstTwenty random) [] scope)
+      unfolding replyText planFor refreshPlan
+      refresh-reply e =
+          let live = refresh-has t slots random p r (sym (granted-is a) ∙ e) .0 in
+          let from = origin (invariant-at (handed .clock) (once a)) (once a) refresh p live in
+          reply-is a e
+          ∙ ap (λ (set : ℕ). sets (handed .output) 0 (tokenReply (firstTwenty random) [] set))
+          (given-asked (r .scope) _ ∙ ap (λ (s : Slot). askedOr (r .scope) (s .scope)) (sym from))
 
   -- ---- the check
 
-  module _ (presented : List ℕ) (judged : isUnfit (answerTo registry b (check presented clock)) ≡ false) where
-    check-served : checkOutcome presented registry b clock .answer ≡ checkSlots (callTime (v .read) clock) (v .read .slots) (readHandle presented)
-    unfolding answerTo
-    check-served =
-        rw (v .bytes)
-        (ap (λ (o : Outcome CheckAnswer). o .answer)
-        (unstopped (check-admission registry fit (v .read) (v .sound) presented clock) (rw (v .bytes) at judged) .1))
+  module _ (presented : List ℕ) (clock : ℕ) (judged : Judged registry cs (check presented clock)) where
+    checked : next registry cs (check presented clock) .answer ≡ checkAnswer (checkSlots (timeAt registry cs clock) slots (readHandle presented))
+    unfolding outcomeOn serveCheck
+    checked = ap (λ (o : Outcome Answer). o .answer) (served (check presented clock) (judged .0) .1)
 
-    answer-is : checkOutcome presented registry b clock .answer ≡ checkSlots t slots (readHandle presented)
-    answer-is = check-served ∙ ap (λ (u : ℕ). checkSlots u slots (readHandle presented)) time-is
+    fresh-randoms : NeverTwice (contained registry cs .randoms)
+    fresh-randoms = never-tail (twenties (check presented clock)) (contained registry cs .randoms) (judged .1)
 
-    module _ (once : NeverTwice randoms) where
-      check-claim : isLiveAnswer (checkOutcome presented registry b clock .answer) ≡ mayPass t (c .standing) (readHandle presented)
-      check-claim = ap isLiveAnswer answer-is ∙ check-passes (c .standing) invariant-at once (readHandle presented)
+    check-claim : isLiveAnswer (next registry cs (check presented clock) .answer)
+        ≡ mayPass (timeAt registry cs clock) (standing registry cs) (readHandle presented)
+    unfolding isLiveAnswer
+    check-claim = ap isLiveAnswer checked ∙ check-passes (invariant-at clock fresh-randoms) fresh-randoms (readHandle presented)
 
-      check-named : (e : Issue) → List·Memᴰ e (c .standing) → isLiveAt t e ≡ true → isAccess e ≡ true → isOf (readHandle presented) e ≡ true
-          → checkOutcome presented registry b clock .answer ≡ Live (record { client = e .client; farm = e .farm; scope = e .scope; left = e .expiry - t })
-      check-named e m live access here = answer-is ∙ check-names (c .standing) invariant-at once (readHandle presented) e m live access here
+    check-named : (e : Issue) → List·Memᴰ e (standing registry cs) → isLiveAt (timeAt registry cs clock) e ≡ true
+        → (isA access e && isOf (readHandle presented) e) ≡ true
+        → next registry cs (check presented clock) .answer
+        ≡ checkAnswer (Live (record { client = e .client; farm = e .farm; scope = e .scope; left = e .expiry - timeAt registry cs clock }))
+    check-named e m live here =
+        checked ∙ ap checkAnswer (check-names (invariant-at clock fresh-randoms) fresh-randoms (readHandle presented) e m live here)
 
--- ---- a refused try
+  -- ---- a refused try
 
-module _ (registry : List ℕ) (fit : fitRegistry registry ≡ true) {b : List ℕ} (v : Stored (length (clientsOf registry)) b) (c : Call) (i : ℕ) where
-  refused-served : Served registry (v .read) c → isGranted (answerTo registry (encode (v .read)) c) ≡ false
-      → part (storeAfter registry (encode (v .read)) c) (slotStart i) slotSize ≡ part (encode (v .read)) (slotStart i) slotSize
-  refused-served (unseen n u s) e = ap (λ (l : List ℕ). part l (slotStart i) slotSize) s
-  refused-served (seen p a s) e =
-      let g = v .read in
-      let clients = clientsOf registry in
-      let none = sym (granted-on clients g c) ∙ sym (ap isGranted a) ∙ e in
-      ap (λ (l : List ℕ). part l (slotStart i) slotSize) s
-      ∙ slots-same (leftBy clients g c) g (refused-keeps (callTime g (clockOf c)) (g .slots) (randomOf c) (asked clients c) none) i
-
-  refused-slots : isGranted (answerTo registry b c) ≡ false → part (storeAfter registry b c) (slotStart i) slotSize ≡ part b (slotStart i) slotSize
-  refused-slots e = rw (v .bytes) (refused-served (serve registry fit (v .read) (v .sound) c) (rw (v .bytes) at e))
-
--- ---- the theorem
-
-module _ (registry : List ℕ) (bytes : Bytes registry) (cs : List Call) (typed : AllWellTyped cs) where
-  fit-claim : fitRegistry registry ≡ true → Demand3 registry cs
-  fit-claim fit = record {
-    exchanges = λ header body clock random output client p again j reads.
-        let v = whole (token header body clock random output) j in
-        exchange-claim registry fit v clock header body random output (j .0) (j .1) client p again reads;
-    refreshes = λ header body clock random output client p scope j reads.
-        let v = whole (token header body clock random output) j in
-        refresh-claim registry fit v clock header body random output (j .0) (j .1) client p scope reads;
-    passes = λ presented clock j. check-claim registry fit (whole (check presented clock) j) clock presented (j .0) (before (check presented clock) j);
-    names = λ presented clock j. check-named registry fit (whole (check presented clock) j) clock presented (j .0) (before (check presented clock) j);
-    exchangeReplies = λ header body clock random output client p again j reads.
-        let v = whole (token header body clock random output) j in
-        exchange-reply registry fit v clock header body random output (j .0) (j .1) client p again reads;
-    refreshReplies = λ header body clock random output client p scope j reads.
-        let v = whole (token header body clock random output) j in
-        refresh-reply registry fit v clock header body random output (j .0) (j .1) client p scope reads;
-    spendsNothing = λ c e i below. refused-slots registry fit (stored-run registry fit fitting freshStore cs typed (stored-fresh _)) c i e;
-  }
+  refused-slots : (c : Call) → isGranted (next registry cs c .answer) ≡ false
+      → (i : ℕ) → part (next registry cs c .store) (slotStart i) slotSize ≡ part (store registry cs) (slotStart i) slotSize
+  refused-slots c none i = by (take registry (store registry cs) c)
     where
-      fitting : FitClients (clientsOf registry)
-      fitting = clients-fit registry bytes fit
+      keeps : isGranted (outcomeOn (clientsOf registry) left c .answer) ≡ false → leftBy (clientsOf registry) left c .slots ≡ slots
+      keeps e =
+          refused-keeps _ (sym (granted-on (clientsOf registry) left c) ∙ e)
+          ∙ denied-slots _ slots (handedTo c .random) _ (asked (clientsOf registry) c .request)
 
-      -- no random bytes came twice before the call that is judged
-      before : (c : Call) → Judged registry cs c → NeverTwice (twentiesSeen (events registry freshStore cs))
-      before c j = never-tail (twenties c) (twentiesSeen (events registry freshStore cs)) (j .1)
-
-      whole : (c : Call) → Judged registry cs c
-          → Kept (length (clientsOf registry)) (storeAfterAll registry freshStore cs) (contents (clientsOf registry) (events registry freshStore cs))
-          (twentiesSeen (events registry freshStore cs))
-      whole c j = kept-all registry fit fitting cs typed (before c j)
-
-  unfit-claim : fitRegistry registry ≡ false → Demand3 registry cs
-  unfit-claim unfit = record {
-    exchanges = λ header body clock random output client p again j reads. absurd (none (token header body clock random output) (j .0));
-    refreshes = λ header body clock random output client p scope j reads. absurd (none (token header body clock random output) (j .0));
-    passes = λ presented clock j. absurd (none (check presented clock) (j .0));
-    names = λ presented clock j e m live access here. absurd (none (check presented clock) (j .0));
-    exchangeReplies = λ header body clock random output client p again j reads e. absurd (none (token header body clock random output) (j .0));
-    refreshReplies = λ header body clock random output client p scope j reads e. absurd (none (token header body clock random output) (j .0));
-    spendsNothing = λ c e i below. ap (λ (l : List ℕ). part l (slotStart i) slotSize) (stops registry unfit (storeAfterAll registry freshStore cs) c .1);
-  }
-    where
-      none : (c : Call) → isUnfit (answerTo registry (storeAfterAll registry freshStore cs) c) ≡ false → ⊥
-      none c j = false≢true (sym j ∙ stops registry unfit (storeAfterAll registry freshStore cs) c .0)
+      by : TakenCall registry (store registry cs) c
+          → part (next registry cs c .store) (slotStart i) slotSize ≡ part (store registry cs) (slotStart i) slotSize
+      by (unseen n u s) = ap (λ (l : List ℕ). part l (slotStart i) slotSize) s
+      by (seen past e) =
+          let o = on-record c e in
+          rw (o, store-on (clientsOf registry) left c, kept .bytes)
+          (slots-same (leftBy (clientsOf registry) left c) left (keeps (rw o at none)) i)
 
 -- For every registry of bytes, fit or not, and every list of calls whose farm numbers have 32 bits. That no twenty random bytes
 -- come twice is asked where a call is judged (`Judged`); what a refused try leaves needs no such premise.
 pub demand3 : (registry : List ℕ) → Bytes registry → (cs : List Call) → AllWellTyped cs → Demand3 registry cs
-demand3 registry bytes cs typed = by (fitRegistry registry) refl
-  where
-    by : (f : Bool) → fitRegistry registry ≡ f → Demand3 registry cs
-    by true e = fit-claim registry bytes cs typed e
-    by false e = unfit-claim registry bytes cs typed e
+demand3 registry bytes cs typed = record {
+  exchanges = exchange-claim registry bytes cs typed;
+  refreshes = refresh-claim registry bytes cs typed;
+  passes = check-claim registry bytes cs typed;
+  names = check-named registry bytes cs typed;
+  exchangeReplies = exchange-reply registry bytes cs typed;
+  refreshReplies = refresh-reply registry bytes cs typed;
+  spendsNothing = λ c none i below. refused-slots registry bytes cs typed c none i;
+}

@@ -10,30 +10,31 @@ use Prim.Native.Nat.{ℕ, _+_, _≤_, max}
 use native.Mathlib.Omega.{arith}
 use borrow.Author.Tests.{ltb-true, not-true}
 use lib.Dec.{ltb, lit<}
-use lib.ListN.{getD, replicate}
+use lib.ListN.{getD}
 use Rattle.octets.specs.Lists.{Bytes, every, same}
 use Rattle.octets.proofs.Lists.{same-eq}
 use Rattle.octets.proofs.Booleans.{and-left, and-right}
 use Rattle.client_registry.specs.Registry.{Client, soundText, soundId, soundRedirect, soundSecret, soundField, soundCommon, soundPublic, soundConfidential, soundRecord, recordSize, recordsBehind, soundRecords, clientsOf, differ, distinct, fitRegistry}
 use Rattle.client_registry.specs.Sample.{recordOf, registryOf, sampleConfidential, samplePublic, sampleClients, sampleRegistry}
 use Rattle.token_store.specs.Layout.{latestTime}
-use Rattle.token_store.specs.Search.{bit, count}
+use Rattle.octets.specs.Search.{bit, count}
 use Rattle.token_store.specs.Store.{fresh}
-use Rattle.token_store.proofs.Searches.{every-each}
+use Rattle.octets.proofs.Searches.{every-each}
 use Rattle.protocol.specs.declared.ErrorWord.the-variants.{InvalidGrant}
 use Rattle.protocol.specs.declared.Refusal.the-variants.{Token}
 use Rattle.protocol.specs.declared.Decision.{Decision}
 use Rattle.protocol.specs.declared.Decision.the-variants.{Grant, Refuse}
 use Rattle.protocol.specs.Token.{readToken}
-use Rattle.history.specs.Calls.{Call, AllWellTyped, answerTo, storeAfterAll, Event, events, freshStore, isUnfitRefusal, isUnfitDecision, isUnfit}
-use Rattle.history.specs.Contents.{isGranted, Contents, contents, twenties, NeverTwice}
+use Rattle.protocol.proofs.Starred.{countUp}
+use Rattle.history.specs.Calls.{Call, handedTo, AllWellTyped, outcomeOf, answerTo, storeAfterAll, Event, events, freshStore, isUnfitRefusal, isUnfitDecision, isUnfit}
+use Rattle.history.specs.Contents.{isGranted, Contents, nothingYet, withEvents, twenties, NeverTwice}
 use Rattle.history.specs.Claim.{mayExchange, Judged}
-use Rattle.history.proofs.Replay.{isPast, answerOn, leftByAll, eventsOn}
-use Rattle.history.proofs.Examples.{countUp, authorizeAt, header, body, tokenAt, exchangeAt, visit, night, containedIn, codeAt, wordIn, wordOn, presented, computed}
-use Rattle.history.proofs.Readings.{FitClients}
-use Rattle.history.proofs.Bytes.{sound-fresh}
-use Rattle.history.proofs.Runs.{fresh-bytes, Replayed, replay, replay-answer}
-use Rattle.history.proofs.Theorem.{clients-fit, demand3}
+use Rattle.history.proofs.SoundStores.{sound-fresh}
+use Rattle.history.proofs.AnyCall.{unfitTo}
+use Rattle.history.proofs.AllCalls.{fresh-bytes}
+use Rattle.history.proofs.Theorem.{demand3}
+use Rattle.history.proofs.CallsOnRecords.{answerOn, leftByAll, eventsOn, isFitting, Replayed, replay, replay-answer}
+use Rattle.history.proofs.Examples.{handedAt, authorizeAt, header, body, tokenAt, exchangeAt, visit, night, containedIn, codeAt, wordIn, wordOn, presented, asksTokens, computed}
 
 -- ---- the sample registry
 
@@ -52,14 +53,11 @@ all-bytes = refl
 sample-bytes : Bytes sampleRegistry
 sample-bytes k = ltb-true (getD sampleRegistry k 0) 256 (every-each (λ b. ltb b 256) 0 sampleRegistry refl all-bytes k)
 
-sample-fitting : FitClients (clientsOf sampleRegistry)
-sample-fitting = clients-fit sampleRegistry sample-bytes sample-fit
-
 -- ---- what the server answers
 
-module _ (cs : List Call) (typed : AllWellTyped cs) (past : every isPast cs ≡ true) where
-  replayed : Replayed sampleRegistry sample-fit sample-fitting fresh cs
-  replayed = replay sampleRegistry sample-fit sample-fitting fresh (sound-fresh _) cs typed past
+module _ (cs : List Call) (typed : AllWellTyped cs) (past : every isFitting cs ≡ true) where
+  replayed : Replayed sampleRegistry sample-bytes sample-fit fresh cs
+  replayed = replay sampleRegistry sample-bytes sample-fit fresh (sound-fresh _) cs typed past
 
   events-are : events sampleRegistry freshStore cs ≡ eventsOn sampleClients fresh cs
   events-are =
@@ -67,23 +65,23 @@ module _ (cs : List Call) (typed : AllWellTyped cs) (past : every isPast cs ≡ 
       ∙ replayed .same-events
       ∙ ap (λ (clients : List Client). eventsOn clients fresh cs) sample-clients
 
-  answer-is : (c : Call) → isPast c ≡ true
+  answer-is : (c : Call) → isFitting c ≡ true
       → answerTo sampleRegistry (storeAfterAll sampleRegistry freshStore cs) c ≡ answerOn sampleClients (leftByAll sampleClients fresh cs) c
   answer-is c p =
       ap (λ (b : List ℕ). answerTo sampleRegistry (storeAfterAll sampleRegistry b cs) c) fresh-bytes
-      ∙ replay-answer sampleRegistry sample-fit sample-fitting fresh cs replayed c p
+      ∙ replay-answer sampleRegistry sample-bytes sample-fit fresh cs replayed c p
       ∙ ap (λ (clients : List Client). answerOn clients (leftByAll clients fresh cs) c) sample-clients
 
-visit-past : every isPast visit ≡ true
-unfolding every isPast visit authorizeAt countUp
+visit-past : every isFitting visit ≡ true
+unfolding every isFitting unfitTo handedTo visit authorizeAt handedAt countUp
 visit-past = refl
 
-night-past : every isPast night ≡ true
-unfolding every isPast night authorizeAt countUp
+night-past : every isFitting night ≡ true
+unfolding every isFitting unfitTo handedTo night authorizeAt handedAt countUp
 night-past = refl
 
-exchange-past : (clock : ℕ) → ltb latestTime clock ≡ false → isPast (exchangeAt clock) ≡ true
-unfolding isPast exchangeAt tokenAt countUp
+exchange-past : (clock : ℕ) → ltb latestTime clock ≡ false → isFitting (exchangeAt clock) ≡ true
+unfolding isFitting unfitTo handedTo exchangeAt tokenAt handedAt countUp
 exchange-past clock e = rw e
 
 visit-typed : AllWellTyped visit
@@ -98,22 +96,19 @@ night-typed = (lit< tt, (tt, tt))
 unfoldable pub wordAfter : List Call → Call → Decision
 wordAfter cs c = wordIn (answerTo sampleRegistry (storeAfterAll sampleRegistry freshStore cs) c)
 
-word-visit : (clock : ℕ) → ltb latestTime clock ≡ false → wordAfter visit (exchangeAt clock) ≡ wordOn visit (exchangeAt clock)
+word-is : (cs : List Call) → AllWellTyped cs → every isFitting cs ≡ true → (clock : ℕ) → ltb latestTime clock ≡ false
+    → wordAfter cs (exchangeAt clock) ≡ wordOn cs (exchangeAt clock)
 unfolding wordAfter wordOn
-word-visit clock e = ap wordIn (answer-is visit visit-typed visit-past (exchangeAt clock) (exchange-past clock e))
-
-word-night : (clock : ℕ) → ltb latestTime clock ≡ false → wordAfter night (exchangeAt clock) ≡ wordOn night (exchangeAt clock)
-unfolding wordAfter wordOn
-word-night clock e = ap wordIn (answer-is night night-typed night-past (exchangeAt clock) (exchange-past clock e))
+word-is cs typed past clock e = ap wordIn (answer-is cs typed past (exchangeAt clock) (exchange-past clock e))
 
 pub at-1599 : wordAfter visit (exchangeAt 1599) ≡ Grant
-at-1599 = word-visit 1599 refl ∙ computed .in-time
+at-1599 = word-is visit visit-typed visit-past 1599 refl ∙ computed .in-time
 
 pub at-1600 : wordAfter visit (exchangeAt 1600) ≡ Refuse (Token InvalidGrant)
-at-1600 = word-visit 1600 refl ∙ computed .too-late
+at-1600 = word-is visit visit-typed visit-past 1600 refl ∙ computed .too-late
 
 pub in-the-night : wordAfter night (exchangeAt 1100) ≡ Refuse (Token InvalidGrant)
-in-the-night = word-night 1100 refl ∙ computed .in-the-night
+in-the-night = word-is night night-typed night-past 1100 refl ∙ computed .in-the-night
 
 -- ---- by the theorem
 
@@ -136,25 +131,24 @@ distinct-never (x ∷ xs) e h = by (same h x) refl (distinct-never xs (and-right
         omega (arith, ap (λ (y : List ℕ). count (same y) xs) (same-eq h x q))
     by false q r = omega arith
 
-visit-contents : contents (clientsOf sampleRegistry) (events sampleRegistry freshStore visit) ≡ record { highest = 1000; standing = codeAt 1000 0 ∷ [] }
+visit-contents : withEvents (clientsOf sampleRegistry) nothingYet (events sampleRegistry freshStore visit) ≡ containedIn visit
 unfolding containedIn
 visit-contents =
-    ap (λ (es : List Event). contents (clientsOf sampleRegistry) es) (events-are visit visit-typed visit-past)
-    ∙ ap (λ (clients : List Client). contents clients (eventsOn sampleClients fresh visit)) sample-clients
-    ∙ computed .visit-contains
+    ap (λ (es : List Event). withEvents (clientsOf sampleRegistry) nothingYet es) (events-are visit visit-typed visit-past)
+    ∙ ap (λ (clients : List Client). withEvents clients nothingYet (eventsOn sampleClients fresh visit)) sample-clients
 
 module _ (clock : ℕ) (d : Decision) (word : wordAfter visit (exchangeAt clock) ≡ d) (fit : isUnfitDecision d ≡ false) where
   judged : Judged sampleRegistry visit (exchangeAt clock)
-  unfolding wordAfter wordIn exchangeAt tokenAt answerTo isUnfit twenties
-  judged = (ap isUnfitDecision word ∙ fit, rw (events-are visit visit-typed visit-past) (distinct-never _ (computed .randoms)))
+  unfolding wordAfter wordIn exchangeAt tokenAt handedAt outcomeOf isUnfit twenties
+  judged = (ap isUnfitDecision word ∙ fit, rw visit-contents (distinct-never _ (computed .randoms)))
 
   by-demand3 : isGranted (answerTo sampleRegistry (storeAfterAll sampleRegistry freshStore visit) (exchangeAt clock))
-      ≡ mayExchange (max clock 1000) (codeAt 1000 0 ∷ []) 0 presented true
-  unfolding exchangeAt tokenAt
+      ≡ mayExchange (max clock 1000) (codeAt 1000 0 ∷ []) presented asksTokens
+  unfolding exchangeAt tokenAt handedAt
   by-demand3 =
-      demand3 sampleRegistry sample-bytes visit visit-typed .exchanges header body clock (countUp 40 0x20) (replicate 1024 0) 0 presented true judged
-      (ap (λ (clients : List Client). readToken clients header body) sample-clients ∙ computed .read)
-      ∙ ap (λ (c : Contents). mayExchange (max clock (c .highest)) (c .standing) 0 presented true) visit-contents
+      demand3 sampleRegistry sample-bytes visit visit-typed .exchanges header body (handedAt clock 40 0x20) presented asksTokens
+      (record { judged = judged; reads = ap (λ (clients : List Client). readToken clients header body) sample-clients ∙ computed .read })
+      ∙ ap (λ (c : Contents). mayExchange (max clock (c .highest)) (c .standing) presented asksTokens) (visit-contents ∙ computed .visit-contains)
 
 pub yields-1599 : isGranted (answerTo sampleRegistry (storeAfterAll sampleRegistry freshStore visit) (exchangeAt 1599)) ≡ true
 unfolding isUnfitDecision

@@ -13,18 +13,24 @@ use Rattle.protocol.specs.declared.AuthorizationAnswer.{AuthorizationAnswer}
 use Rattle.protocol.specs.declared.TokenAnswer.{TokenAnswer}
 use Rattle.protocol.specs.declared.CheckAnswer.{CheckAnswer}
 use Rattle.protocol.specs.declared.CheckAnswer.the-variants.{Refused, NotLive, Live}
-use Rattle.protocol.specs.Outcomes.{authorizationOutcome, tokenOutcome, checkOutcome}
+use Rattle.protocol.specs.Outcomes.{Handed, Outcome, clockAlone, authorizationOutcome, tokenOutcome, checkOutcome}
 
 -- a call, by all that it is handed but the registry and the store
 pub data Call : Type 0 where
-  authorization : (query : List ℕ) (decision farm clock : ℕ) (random output : List ℕ) → Call
-  token : (header body : List ℕ) (clock : ℕ) (random output : List ℕ) → Call
+  authorization : (query : List ℕ) (decision farm : ℕ) (handed : Handed) → Call
+  token : (header body : List ℕ) (handed : Handed) → Call
   check : (presented : List ℕ) (clock : ℕ) → Call
+
+-- its clock, random bytes and output
+unfoldable pub handedTo : Call → Handed
+handedTo (authorization query decision farm handed) = handed
+handedTo (token header body handed) = handed
+handedTo (check presented clock) = clockAlone clock
 
 -- a host hands over a farm number of 32 bits; nothing else is asked of a call
 abbrev pub WellTyped : Call → Type 0
-WellTyped (authorization query decision farm clock random output) = farm < 2 ^ 32
-WellTyped (token header body clock random output) = Unit {0}
+WellTyped (authorization query decision farm handed) = farm < 2 ^ 32
+WellTyped (token header body handed) = Unit {0}
 WellTyped (check presented clock) = Unit {0}
 
 unfoldable pub AllWellTyped : List Call → Type 0
@@ -36,18 +42,22 @@ pub data Answer : Type 0 where
   tokenAnswer : TokenAnswer → Answer
   checkAnswer : CheckAnswer → Answer
 
--- what a call does: the definitions that the endpoints are proved against
-unfoldable pub answerTo : List ℕ → List ℕ → Call → Answer
-answerTo registry store (authorization query decision farm clock random output) =
-    authorizationAnswer (authorizationOutcome query decision farm registry store clock random output .answer)
-answerTo registry store (token header body clock random output) = tokenAnswer (tokenOutcome header body registry store clock random output .answer)
-answerTo registry store (check presented clock) = checkAnswer (checkOutcome presented registry store clock .answer)
+-- an outcome with its answer put among those of all endpoints
+abbrev pub answering : {A : Type 0} → (A → Answer) → Outcome A → Outcome Answer
+answering tag o = record { answer = tag (o .answer); output = o .output; store = o .store }
 
-unfoldable pub storeAfter : List ℕ → List ℕ → Call → List ℕ
-storeAfter registry store (authorization query decision farm clock random output) =
-    authorizationOutcome query decision farm registry store clock random output .store
-storeAfter registry store (token header body clock random output) = tokenOutcome header body registry store clock random output .store
-storeAfter registry store (check presented clock) = checkOutcome presented registry store clock .store
+-- what a call does: the definitions that the endpoints are proved against
+unfoldable pub outcomeOf : List ℕ → List ℕ → Call → Outcome Answer
+outcomeOf registry store (authorization query decision farm handed) =
+    answering authorizationAnswer (authorizationOutcome query decision farm registry store handed)
+outcomeOf registry store (token header body handed) = answering tokenAnswer (tokenOutcome header body registry store handed)
+outcomeOf registry store (check presented clock) = answering checkAnswer (checkOutcome presented registry store clock)
+
+abbrev pub answerTo : List ℕ → List ℕ → Call → Answer
+answerTo registry store c = outcomeOf registry store c .answer
+
+abbrev pub storeAfter : List ℕ → List ℕ → Call → List ℕ
+storeAfter registry store c = outcomeOf registry store c .store
 
 -- the store after some calls, the first of which is handed `store`
 unfoldable pub storeAfterAll : List ℕ → List ℕ → List Call → List ℕ

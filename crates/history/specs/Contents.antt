@@ -11,19 +11,25 @@ use Rattle.octets.specs.Lists.{every, same}
 use Rattle.encoding.specs.declared.HandleText.{HandleText}
 use Rattle.scope.specs.Set.{has}
 use Rattle.client_registry.specs.Registry.{Client}
-use Rattle.token_store.specs.Search.{count, firstOr, keep}
+use Rattle.octets.specs.Search.{count, firstOr, keep}
+use Rattle.protocol.specs.declared.PageCause.the-variants.{Query}
+use Rattle.protocol.specs.declared.Refusal.the-variants.{ErrorPage}
 use Rattle.protocol.specs.declared.ScopeAsked.{ScopeAsked}
 use Rattle.protocol.specs.declared.ScopeAsked.the-variants.{Everything, Only, Unreadable}
+use Rattle.protocol.specs.declared.CodeRequest.{CodeRequest}
+use Rattle.protocol.specs.declared.Request.{Request}
+use Rattle.protocol.specs.declared.Request.the-variants.{Refused, Code, Exchange, Refresh}
+use Rattle.protocol.specs.declared.Reading.{Reading}
 use Rattle.protocol.specs.Answers.{isGrant, statusOf}
-use Rattle.protocol.specs.Requests.{authorize, exchange, refresh, Reading, refused, asks}
+use Rattle.protocol.specs.Requests.{refusedReading}
 use Rattle.protocol.specs.Authorization.{readAuthorization}
 use Rattle.protocol.specs.Token.{readToken}
-use Rattle.history.specs.Calls.{Call, authorization, token, check, Answer, authorizationAnswer, tokenAnswer, checkAnswer, isUnfit, Event}
+use Rattle.history.specs.Calls.{Call, authorization, token, check, handedTo, Answer, authorizationAnswer, tokenAnswer, checkAnswer, isUnfit, Event}
 
 -- ---- issues
 
 pub data Sort : Type 0 where
-  code access refreshing : Sort
+  code access refresh : Sort
 
 -- what a call issued, and until when it is live
 pub record Issue : Type 0 where
@@ -36,14 +42,10 @@ pub record Issue : Type 0 where
   pub bound : Bool
   pub expiry : ℕ
 
-abbrev pub isCode : Issue → Bool
-isCode e = elim (e .sort) [ code ↦ true | access ↦ false | refreshing ↦ false ]
-
-abbrev pub isAccess : Issue → Bool
-isAccess e = elim (e .sort) [ code ↦ false | access ↦ true | refreshing ↦ false ]
-
-abbrev pub isRefreshing : Issue → Bool
-isRefreshing e = elim (e .sort) [ code ↦ false | access ↦ false | refreshing ↦ true ]
+abbrev pub isA : Sort → Issue → Bool
+isA code e = elim (e .sort) [ code ↦ true | access ↦ false | refresh ↦ false ]
+isA access e = elim (e .sort) [ code ↦ false | access ↦ true | refresh ↦ false ]
+isA refresh e = elim (e .sort) [ code ↦ false | access ↦ false | refresh ↦ true ]
 
 -- "Something is live while T is below its expiry."
 abbrev pub isLiveAt : ℕ → Issue → Bool
@@ -54,17 +56,33 @@ abbrev pub isOf : HandleText → Issue → Bool
 isOf presented e = presented .valid && same (presented .bytes) (e .handle)
 
 -- "Expiry is T plus 600 (code), 3,600 (access), 2,592,000 (refresh)."
-abbrev pub codeIssue : ℕ → List ℕ → ℕ → ℕ → ℕ → Bool → Issue
-codeIssue t handle client farm scope bound =
-    record { sort = code; handle = handle; client = client; farm = farm; scope = scope; bound = bound; expiry = t + 600 }
+abbrev pub lifetime : Sort → ℕ
+lifetime code = 600
+lifetime access = 3600
+lifetime refresh = 2592000
 
-abbrev pub accessIssue : ℕ → List ℕ → ℕ → ℕ → ℕ → Issue
-accessIssue t handle client farm scope =
-    record { sort = access; handle = handle; client = client; farm = farm; scope = scope; bound = false; expiry = t + 3600 }
+abbrev pub codeIssue : ℕ → List ℕ → CodeRequest → Issue
+codeIssue t handle r = record {
+  sort = code;
+  handle = handle;
+  client = r .client;
+  farm = r .farm;
+  scope = r .scope;
+  bound = r .bound;
+  expiry = t + lifetime code;
+}
 
-abbrev pub refreshIssue : ℕ → List ℕ → ℕ → ℕ → ℕ → Issue
-refreshIssue t handle client farm scope =
-    record { sort = refreshing; handle = handle; client = client; farm = farm; scope = scope; bound = false; expiry = t + 2592000 }
+-- a token of a sort, on the code or refresh token `origin`
+abbrev pub tokenIssue : Sort → ℕ → List ℕ → Issue → ℕ → Issue
+tokenIssue sort t handle origin scope = record {
+  sort = sort;
+  handle = handle;
+  client = origin .client;
+  farm = origin .farm;
+  scope = scope;
+  bound = false;
+  expiry = t + lifetime sort;
+}
 
 -- what stands where there is no issue: it is never live
 unfoldable pub noIssue : Issue
@@ -94,46 +112,38 @@ abbrev pub lastTwenty : List ℕ → List ℕ
 lastTwenty random = drop 20 random
 
 -- the code or refresh token that a request presents, among what stands
-abbrev pub originCode : HandleText → List Issue → Issue
-originCode presented standing = firstOr noIssue (λ e. isCode e && isOf presented e) standing
-
-abbrev pub originRefresh : HandleText → List Issue → Issue
-originRefresh presented standing = firstOr noIssue (λ e. isRefreshing e && isOf presented e) standing
+abbrev pub originOf : Sort → HandleText → List Issue → Issue
+originOf sort presented standing = firstOr noIssue (λ e. isA sort e && isOf presented e) standing
 
 -- what a request that was granted issued: "its client, farm and scope come from that call's arguments and the issue of
 -- the code or refresh token presented"
-unfoldable pub issuedBy : ℕ → List Issue → List ℕ → Reading → List Issue
-issuedBy t standing random (refused r) = []
-issuedBy t standing random (asks (authorize client farm scope bound)) = codeIssue t (firstTwenty random) client farm scope bound ∷ []
-issuedBy t standing random (asks (exchange client presented again)) =
-    let o = originCode presented standing in
-    refreshIssue t (lastTwenty random) (o .client) (o .farm) (o .scope) ∷ accessIssue t (firstTwenty random) (o .client) (o .farm) (o .scope) ∷ []
-issuedBy t standing random (asks (refresh client presented scope)) =
-    let o = originRefresh presented standing in
-    accessIssue t (firstTwenty random) (o .client) (o .farm) (askedOr scope (o .scope)) ∷ []
+unfoldable pub issuedBy : ℕ → List Issue → List ℕ → HandleText → Request → List Issue
+issuedBy t standing random presented (Refused refusal) = []
+issuedBy t standing random presented (Code r) = codeIssue t (firstTwenty random) r ∷ []
+issuedBy t standing random presented (Exchange r) =
+    let o = originOf code presented standing in
+    tokenIssue refresh t (lastTwenty random) o (o .scope) ∷ tokenIssue access t (firstTwenty random) o (o .scope) ∷ []
+issuedBy t standing random presented (Refresh r) =
+    let o = originOf refresh presented standing in tokenIssue access t (firstTwenty random) o (askedOr (r .scope) (o .scope)) ∷ []
 
 -- what it ended: "A code is exchanged once an exchange of it has answered 200."
-unfoldable pub isEndedBy : Reading → Issue → Bool
-isEndedBy (refused r) e = false
-isEndedBy (asks (authorize client farm scope bound)) e = false
-isEndedBy (asks (exchange client presented again)) e = isCode e && isOf presented e
-isEndedBy (asks (refresh client presented scope)) e = false
-
-unfoldable pub clockOf : Call → ℕ
-clockOf (authorization query decision farm clock random output) = clock
-clockOf (token header body clock random output) = clock
-clockOf (check presented clock) = clock
+unfoldable pub isEndedBy : HandleText → Request → Issue → Bool
+isEndedBy presented (Refused refusal) e = false
+isEndedBy presented (Code r) e = false
+isEndedBy presented (Exchange r) e = isA code e && isOf presented e
+isEndedBy presented (Refresh r) e = false
 
 -- what stands after a request that was granted
 unfoldable pub afterGrant : ℕ → List Issue → List ℕ → Reading → List Issue
-afterGrant t standing random reading = issuedBy t standing random reading ++ keep (λ e. not (isEndedBy reading e)) standing
+afterGrant t standing random reading =
+    issuedBy t standing random (reading .presented) (reading .request)
+    ++ keep (λ e. not (isEndedBy (reading .presented) (reading .request) e)) standing
 
--- the same for a call: what it asked is read from its arguments
-unfoldable pub afterCall : List Client → ℕ → List Issue → Call → List Issue
-afterCall clients t standing (authorization query decision farm clock random output) =
-    afterGrant t standing random (readAuthorization clients query decision farm)
-afterCall clients t standing (token header body clock random output) = afterGrant t standing random (readToken clients header body)
-afterCall clients t standing (check presented clock) = standing
+-- what a call asked, read from its arguments; a check asks for nothing that could be granted
+unfoldable pub asked : List Client → Call → Reading
+asked clients (authorization query decision farm handed) = readAuthorization clients query decision farm
+asked clients (token header body handed) = readToken clients header body
+asked clients (check presented clock) = refusedReading (ErrorPage Query)
 
 -- "A call that answered with a code or token issued it": a redirect with a code, or status 200
 unfoldable pub isGranted : Answer → Bool
@@ -143,36 +153,33 @@ isGranted (checkAnswer a) = false
 
 -- ---- what all calls contain
 
--- the highest clock seen, and the issues that no later call has ended
+-- "(forty are two twenties)"
+unfoldable pub twenties : Call → List (List ℕ)
+twenties (authorization query decision farm handed) = handed .random ∷ []
+twenties (token header body handed) = firstTwenty (handed .random) ∷ lastTwenty (handed .random) ∷ []
+twenties (check presented clock) = []
+
+-- of the calls seen: the highest clock, the issues that no later call has ended, and the random bytes
 pub record Contents : Type 0 where
   pub highest : ℕ
   pub standing : List Issue
+  pub randoms : List (List ℕ)
 
+-- before any call
+abbrev pub nothingYet : Contents
+nothingYet = record { highest = 0; standing = []; randoms = [] }
+
+-- one event more: "Calls refused with 1 to 4 are neither judged nor seen, and their random bytes don't count."
 unfoldable pub withEvent : List Client → Event → Contents → Contents
 withEvent clients e c =
-    let t = max (clockOf (e .call)) (c .highest) in
-    let next = cond (isGranted (e .answer)) (afterCall clients t (c .standing) (e .call)) (c .standing) in
-    cond (isUnfit (e .answer)) c (record { highest = t; standing = next })
+    let handed = handedTo (e .call) in
+    let t = max (handed .clock) (c .highest) in
+    let next = cond (isGranted (e .answer)) (afterGrant t (c .standing) (handed .random) (asked clients (e .call))) (c .standing) in
+    cond (isUnfit (e .answer)) c (record { highest = t; standing = next; randoms = twenties (e .call) ++ c .randoms })
 
 unfoldable pub withEvents : List Client → Contents → List Event → Contents
 withEvents clients c [] = c
 withEvents clients c (e ∷ es) = withEvents clients (withEvent clients e c) es
-
-unfoldable pub contents : List Client → List Event → Contents
-contents clients es = withEvents clients (record { highest = 0; standing = [] }) es
-
--- ---- random bytes
-
--- "(forty are two twenties)"
-unfoldable pub twenties : Call → List (List ℕ)
-twenties (authorization query decision farm clock random output) = random ∷ []
-twenties (token header body clock random output) = firstTwenty random ∷ lastTwenty random ∷ []
-twenties (check presented clock) = []
-
--- of the calls seen: "Calls refused with 1 to 4 are neither judged nor seen, and their random bytes don't count."
-unfoldable pub twentiesSeen : List Event → List (List ℕ)
-twentiesSeen [] = []
-twentiesSeen (e ∷ es) = let r = twentiesSeen es in cond (isUnfit (e .answer)) r (twenties (e .call) ++ r)
 
 -- "the same twenty random bytes never come twice"
 abbrev pub NeverTwice : List (List ℕ) → Type 0

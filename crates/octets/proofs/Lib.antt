@@ -5,3 +5,6 @@ pub mod Lists
 pub mod Stores
 pub mod BigEndian
 pub mod Pieces
+pub mod Writing
+pub mod Searches
+pub mod Counting

@@ -1,11 +1,11 @@
 -- Laws of the definitions of specs/Lists.antt that a scan asks for, and of parts.
 --
--- In order: `every`, one element more, from the front and from the back; `same`, as an equation and as a scan;
--- lists of bytes; parts: their length, their elements, parts of parts, and a part that reaches the end.
+-- In order: `every`, one element more at the back; `same`, as an equation and as a scan; lists of bytes; a text in a
+-- table; parts: their length, parts of parts, a part that reaches the end, and parts by their end.
 --
 -- Not here: a run of stores (`Stores`), `indexOf` and `splitOn` (`Pieces`), `take`, `drop` and `getD` alone (`lib.Seq`).
 -- Assumes nothing.
-use mathlib.Core.Path.{_≡_, refl, sym, ap, _∙_}
+use mathlib.Core.Path.{_≡_, refl, sym, ap, ap₂, _∙_}
 use mathlib.Core.Bool.{Bool, true, false, _&&_, false≢true, and-eq-true-iff, and-assoc, and-true}
 use mathlib.Core.List.{List, [], _∷_, _++_}
 use Prim.Native.Nat.{ℕ, zero, suc, _+_, _-_, _≤_, _<_}
@@ -14,9 +14,11 @@ use native.Mathlib.Numerals.{add-one}
 use native.Mathlib.Omega.{arith}
 use borrow.Author.Tests.{eq-eqb, eqb-true}
 use lib.Dec.{eqb, lit<}
-use lib.ListN.{length, take, drop, getD, length-append, length-take, length-drop, drop-of-length-le}
-use lib.Seq.{take-nil, take-suc, drop-cons, take-all, getD-take, getD-drop, drop-drop, take-take, length-take-le, take-add}
-use Rattle.octets.specs.Lists.{part, Bytes, every, same}
+use lib.ListN.{length, take, drop, getD, replicate, length-append, length-drop}
+use lib.Seq.{take-nil, take-suc, drop-cons, take-all, getD-drop, drop-drop, take-take, length-take-le, take-add, take-append-seam}
+use Rattle.octets.proofs.Booleans.{by-test}
+use Rattle.octets.specs.Text.{padded}
+use Rattle.octets.specs.Lists.{part, Bytes, every, isZero, same}
 
 -- ---- every element passes
 
@@ -37,21 +39,20 @@ module _ {A : Type 0} (p : A → Bool) where
       rw (add-one, take-suc s i d h)
       (every-append (take i s) (getD s i d ∷ []) ∙ ap (λ (b : Bool). every p (take i s) && b) (and-true (p (getD s i d))))
 
-  -- one element less at the front: how a scan that may stop early goes on
-  pub every-step : (s : List A) (i : ℕ) (d : A) → i < length s → every p (drop i s) ≡ (p (getD s i d) && every p (drop (i + 1) s))
-  unfolding every
-  every-step s i d h = rw (add-one, drop-cons s i d h)
-
-  pub every-end : (s : List A) (i : ℕ) → length s ≤ i → every p (drop i s) ≡ true
-  unfolding every
-  every-end s i h = rw (drop-of-length-le s h)
-
   -- what holds of every element holds of each
   pub every-at : (s : List A) (d : A) → every p s ≡ true → (i : ℕ) → i < length s → p (getD s i d) ≡ true
   unfolding every
   every-at [] d e i h = absurd (not-suc-le-zero h)
   every-at (x ∷ xs) d e zero h = and-eq-true-iff (p x) (every p xs) .0 e .0
   every-at (x ∷ xs) d e (suc i) h = every-at xs d (and-eq-true-iff (p x) (every p xs) .0 e .1) i (omega arith)
+
+-- elements that are all zero
+pub every-zero : (l : List ℕ) → every isZero l ≡ true → l ≡ replicate (length l) 0
+unfolding every
+every-zero [] e = refl
+every-zero (x ∷ xs) e =
+    let h = and-eq-true-iff (isZero x) (every isZero xs) .0 e in
+    ap₂ (λ (a : ℕ) (l : List ℕ). a ∷ l) (eqb-true x 0 (h .0)) (every-zero xs (h .1))
 
 -- ---- equality
 
@@ -71,13 +72,19 @@ same-eq (x ∷ xs) (y ∷ ys) e =
     let q = same-eq xs ys (h .1) in
     cc
 
+-- two tests of equality that say the same
+pub same-iff : (x y u v : List ℕ) → (x ≡ y → u ≡ v) → (u ≡ v → x ≡ y) → same x y ≡ same u v
+same-iff x y u v f g = by (same x y) refl (same u v) refl
+  where
+    by : (p : Bool) → same x y ≡ p → (q : Bool) → same u v ≡ q → p ≡ q
+    by true e true d = refl
+    by false e false d = refl
+    by true e false d = sym (ap (same u) (sym (f (same-eq x y e))) ∙ same-refl u) ∙ d
+    by false e true d = sym e ∙ ap (same x) (sym (g (same-eq u v d))) ∙ same-refl x
+
 -- lists of different lengths differ
 pub same-length : (xs ys : List ℕ) → (length xs ≡ length ys → ⊥) → same xs ys ≡ false
-same-length xs ys n = go (same xs ys) refl
-  where
-    go : (b : Bool) → same xs ys ≡ b → b ≡ false
-    go true e = absurd (n (ap length (same-eq xs ys e)))
-    go false e = refl
+same-length xs ys n = by-test (same xs ys) (λ e. absurd (n (ap length (same-eq xs ys e)))) (λ e. e)
 
 pub same-none : (xs ys : List ℕ) → same (take 0 xs) (take 0 ys) ≡ true
 unfolding same
@@ -115,22 +122,20 @@ tail-bytes b t h k = h (suc k)
 pub nil-bytes : Bytes []
 nil-bytes k = lit< tt
 
-pub cons-bytes : (b : ℕ) (t : List ℕ) → b < 256 → Bytes t → Bytes (b ∷ t)
-cons-bytes b t h r zero = h
-cons-bytes b t h r (suc k) = r k
+-- ---- a text in a table, with spaces behind it
 
-pub append-bytes : (s t : List ℕ) → Bytes s → Bytes t → Bytes (s ++ t)
-append-bytes [] t h r = r
-append-bytes (x ∷ s) t h r = cons-bytes x (s ++ t) (h zero) (append-bytes s t (tail-bytes x s h) r)
+module _ (n : ℕ) (t : List ℕ) where
+  pub padded-room : length t ≤ length (padded n t)
+  padded-room = simp length-append (omega arith)
+
+  pub padded-text : take (length t) (padded n t) ≡ t
+  padded-text = take-append-seam t (replicate (n - length t) 32)
 
 -- ---- parts
 
 module _ (l : List ℕ) (at n : ℕ) (fits : at + n ≤ length l) where
   pub length-part : length (part l at n) ≡ n
   length-part = length-take-le n (drop at l) (simp length-drop (omega arith))
-
-  pub part-at : (i : ℕ) → i < n → getD (part l at n) i 0 ≡ getD l (at + i) 0
-  part-at i h = rw (getD-take, getD-drop)
 
 pub drop-take : (l : List ℕ) (m k : ℕ) → drop k (take m l) ≡ take (m - k) (drop k l)
 drop-take l m zero = rw sub-zero
@@ -149,3 +154,11 @@ part-add l at m n = take-add m n (drop at l) ∙ rw drop-drop
 -- a part that reaches the end
 pub part-rest : (s : List ℕ) (at : ℕ) → part s at (length s - at) ≡ drop at s
 part-rest s at = take-all (length s - at) (drop at s) (simp length-drop (omega arith))
+
+-- a part from a start to an end
+pub part-to : (l : List ℕ) (from to n : ℕ) → to ≡ from + n → part l from (to - from) ≡ part l from n
+part-to l from to n e = let k : to - from ≡ n = omega arith in ap (part l from) k
+
+-- a part of one element
+pub part-one : (l : List ℕ) (at : ℕ) → at < length l → part l at 1 ≡ getD l at 0 ∷ []
+part-one l at h = rw (drop-cons l at 0 h)

@@ -1,17 +1,17 @@
 -- Laws of runs of stores, `sets l i v`: `v` stored element by element from index i on.
 --
--- In order: two runs, one behind the other; a copy and a fill, one byte further; a run and a part of the list,
--- which stands before, behind or at the run.
+-- In order: two runs, one behind the other; a run over the whole list; a copy and a fill, one byte further; a run and a
+-- part of the list, which stands before, behind or at the run.
 --
 -- Not here: `length-sets`, `sets-eq` (`lib.Seq`); a number stored from its last byte (`BigEndian`).
 -- Assumes nothing.
-use mathlib.Core.Path.{_≡_, refl, sym, ap, _∙_}
-use mathlib.Core.List.{List, [], _∷_, _++_, append-assoc}
-use Prim.Native.Nat.{ℕ, zero, suc, _+_, _-_, _≤_, _<_}
-use native.Mathlib.Nat.{add-zero, add-suc, suc-add}
+use mathlib.Core.Path.{_≡_, refl, ap, _∙_}
+use mathlib.Core.List.{List, [], _∷_, _++_, append-assoc, append-nil}
+use Prim.Native.Nat.{ℕ, suc, _+_, _-_, _≤_, _<_}
+use native.Mathlib.Nat.{zero-add, add-zero, add-suc, suc-add}
 use native.Mathlib.Numerals.{add-one}
 use native.Mathlib.Omega.{arith}
-use lib.ListN.{length, take, drop, getD, set, drop-of-length-le, replicate}
+use lib.ListN.{length, take, drop, getD, set, drop-of-length-le}
 use lib.Seq.{sets, sets-eq, set-comm, drop-at, take-append-seam, drop-cons, drop-set-add, drop-set-lt, take-set-le, length-take-le}
 use Rattle.octets.specs.Lists.{part}
 
@@ -26,6 +26,10 @@ pub sets-snoc : (l : List ℕ) (i : ℕ) (u : List ℕ) (y : ℕ) → sets (set 
 sets-snoc l i [] y = rw add-zero
 sets-snoc l i (x ∷ u) y =
     rw (add-suc, ← suc-add, set-comm l (suc i + length u) i y x (λ e. absurd (omega arith))) (sets-snoc (set l i x) (suc i) u y)
+
+-- a run over the whole list
+pub sets-all : (l v : List ℕ) → length v ≡ length l → sets l 0 v ≡ v
+sets-all l v e = sets-eq v l 0 (omega arith) ∙ rw (zero-add (length v), drop-of-length-le l {i = length v} (omega arith)) (append-nil v)
 
 -- ---- one byte further: what is left to store is one less
 

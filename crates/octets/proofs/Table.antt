@@ -1,14 +1,16 @@
 -- A rule that holds of finitely many numbers, or of each entry of a table, shown by one test that antt computes.
 -- `every f` runs the test at each entry and its place; `at` turns it into the rule at any entry.
--- For the numbers below n: `at {A = ℕ} (λ k _. TEST k) 0 (replicate n 0) tt k h`.
+-- For the numbers below n: `below TEST n tt k h`.
+-- A table that is made of another, entry by entry: `map-at`.
 -- Assumes nothing.
-use mathlib.Core.Path.{_∙_, subst, sym}
+use mathlib.Core.Path.{_≡_, refl, _∙_, subst, sym}
 use mathlib.Core.Bool.{Bool, true, false, _&&_}
-use mathlib.Core.List.{List, [], _∷_}
+use mathlib.Core.List.{List, [], _∷_, map}
 use Prim.Native.Nat.{ℕ, zero, suc, _+_, _<_}
 use native.Mathlib.Nat.{add-zero, zero-add, add-suc, suc-add, le-of-suc-le-suc, not-suc-le-zero}
 use lib.Dec.{T}
-use lib.ListN.{length, getD}
+use lib.ListN.{length, getD, replicate, length-replicate}
+use Rattle.octets.proofs.Booleans.{of-T}
 
 pub both-left : (a b : Bool) → T (a && b) → T a
 both-left true b t = tt
@@ -33,3 +35,12 @@ module _ {A : Type 0} (f : ℕ → A → Bool) where
 
   pub at : (d : A) (xs : List A) → T (everyFrom 0 xs) → (k : ℕ) → k < length xs → T (f k (getD xs k d))
   at d xs t k h = subst (λ (m : ℕ). T (f m (getD xs k d))) (zero-add k) (from d xs 0 t k h)
+
+-- the test passes at each number below n
+pub below : (p : ℕ → Bool) (n : ℕ) → T (everyFrom (λ (k _ : ℕ). p k) 0 (replicate n 0)) → (k : ℕ) → k < n → p k ≡ true
+below p n t k h = of-T (p k) (at (λ (k _ : ℕ). p k) 0 (replicate n 0) t k (rw length-replicate h))
+
+pub map-at : {A B : Type 0} (f : A → B) (xs : List A) (k : ℕ) (d : B) (e : A) → k < length xs → getD (map f xs) k d ≡ f (getD xs k e)
+map-at f [] k d e h = absurd (not-suc-le-zero h)
+map-at f (x ∷ xs) zero d e h = refl
+map-at f (x ∷ xs) (suc k) d e h = map-at f xs k d e (le-of-suc-le-suc h)

@@ -1,4 +1,4 @@
-// octets: bytes in slices. Comparing, testing, copying and clearing them, finding one, and big-endian numbers.
+// octets: bytes in slices. Comparing, testing, copying, appending and clearing them, finding one, and big-endian numbers.
 //
 // Scans look at every byte and accumulate, with no early exit: that is quick, and the time says nothing of where
 // two texts differ. No other crate loops over bytes to compare or to test them.
@@ -8,6 +8,7 @@ ghost use lib.ListN.{length, replicate};
 ghost use lib.Seq.{sets};
 ghost use Rattle.octets.specs.Lists.{part, every, isZero, inClass, same, indexOf};
 ghost use Rattle.octets.specs.BigEndian.{bigEndian, bigEndianBytes};
+ghost use Rattle.octets.specs.Writing.{Appended};
 
 // Whether two slices hold the same bytes.
 pub fn equal(a: &[u8], b: &[u8]) -> bool
@@ -74,6 +75,15 @@ pub fn copy_at(b: &mut [u8], at: usize, src: &[u8])
     for i in 0..src.len() {
         b[at + i] = src[i];
     }
+}
+
+// Writes a text from `at` on, and says where it ends.
+pub fn append(out: &mut [u8], at: usize, text: &[u8]) -> usize
+    requires { ⌜ at + length (now text) ≤ length (now out) ⌝ }
+    ensures { λ r. ⌜ Appended (now (out .entry)) at (now (text .entry)) (now (out .exit)) r ⌝ }
+{
+    copy_at(out, at, text);
+    at + text.len()
 }
 
 // Makes the n bytes from `at` on zero.

@@ -1,37 +1,37 @@
 -- The rest of document 01's "A visit, written out", and what its bad servers did, by computation from the definitions.
 --
 -- As in `Starred`, each case has what the definitions say and what the paper says, both as bytes: a text as it stands, a
--- number as one byte, a yes as 1, a no as 0. The store goes from call to call as a record; `served` below is the
--- whole outcome of a call at it.
-use Prim.Native.Nat.{ℕ, zero, suc, _+_, _-_, _/_, _%_}
+-- number as one byte, a yes as 1, a no as 0. The store goes from call to call as a record.
+use Prim.Native.Nat.{ℕ, _/_, _%_}
 use mathlib.Core.Path.{_≡_, refl}
-use mathlib.Core.Bool.{Bool, true, false, cond, not}
+use mathlib.Core.Bool.{true}
 use mathlib.Core.List.{List, [], _∷_, _++_}
-use lib.Dec.{eqb}
-use lib.ListN.{take, replicate, getD}
+use lib.ListN.{take, replicate}
 use Rattle.octets.specs.Text.{bytes}
 use Rattle.octets.specs.Lists.{every, same, indexOf, splitOn, grow}
 use Rattle.encoding.specs.Hex.{hexText, hexDigit, hexValue, isHandleText, unhex, readHandle}
 use Rattle.encoding.specs.Base64.{isBase64, base64Bytes, groupBytes, soundGroup, sextet, none}
 use Rattle.form_coding.specs.Coding.{decodeAfter, firstByte, extra, isEscape, plain, wellFormed, sound, encode, encodeByte}
-use Rattle.form.specs.Content.{isWellFormedForm, nameOf, valueOf as pieceValue, gives, add, valueIn, formValue}
+use Rattle.form.specs.Content.{isWellFormedForm, pieceName, pieceValue, gives, add, valueIn, formValue, isMissing, isRepeated, onlyValue, isOnce}
 use Rattle.scope.specs.Set.{names}
 use Rattle.scope.specs.Value.{bitFrom, bitOf, union, readScope, chosen, spaced, scopeText}
-use Rattle.client_registry.specs.Lookup.{numberOf}
 use Rattle.client_registry.specs.Sample.{sampleClients, sampleConfidential, samplePublic}
-use Rattle.token_store.specs.Search.{bit, count, any, firstOr, replaceFirst}
+use Rattle.octets.specs.Search.{bit, count, any, indexWhere, firstOr, replaceFirst}
 use Rattle.token_store.specs.Store.{Store, freeSlot, fresh, callTime}
-use Rattle.token_store.specs.declared.Slot.{Slot}
 use Rattle.protocol.specs.declared.Decision.{Decision}
 use Rattle.protocol.specs.declared.Decision.the-variants.{Grant, Refuse}
+use Rattle.protocol.specs.declared.AuthorizationAnswer.{AuthorizationAnswer}
+use Rattle.protocol.specs.declared.TokenAnswer.{TokenAnswer}
 use Rattle.protocol.specs.declared.CheckAnswer.{CheckAnswer}
 use Rattle.protocol.specs.declared.CheckAnswer.the-variants.{Refused, NotLive, Live}
-use Rattle.protocol.specs.Answers.{wordText, isGrant, statusOf, refusalNumber, errorNumber}
-use Rattle.protocol.specs.Requests.{isMissing, isRepeated, valueOf, isOnce, askedBy, scopeAsked, fits, scopeGiven}
-use Rattle.protocol.specs.Authorization.{isBadQuery, queryClient, isBadClient, isBadRedirect, isSoundState, isBadState, isInvalidRequest, isOtherType, isInvalidScope, readAuthorization, separator, stateText, location, codeParameter, errorParameter, locationText}
-use Rattle.protocol.specs.Token.{isInvalidBody, lowerCase, sameAnyCase, credentials, isBadHeader, headerId, headerSecret, presentedId, presentedSecret, isUnclearId, isImpostor, callClient, isInvalidClient, readToken, errorReply, refusalReply, tokenReply, refreshMember, challenges}
-use Rattle.protocol.specs.Granting.{refuseIf, decide, decideReading, granted, denied, slotsAfter, checkSlots}
-use Rattle.protocol.specs.Outcomes.{authorizationServed, tokenServed, grantReply, replyText}
+use Rattle.protocol.specs.Answers.{wordText, isGrant, refusalNumber}
+use Rattle.protocol.specs.Refusals.{firstOf}
+use Rattle.protocol.specs.Requests.{askedBy, scopeAsked, fits, scopeGiven, unlessRefused}
+use Rattle.protocol.specs.Authorization.{isBadQuery, queryClient, isBadClient, isBadRedirect, isSoundState, isBadState, isInvalidRequest, isOtherType, isInvalidScope, codeAsked, pageReasons, redirectReasons, readAuthorization, separator, stateText, location, codeParameter, errorParameter, locationText}
+use Rattle.protocol.specs.ClientForms.{isInvalidForm, lowerCase, sameAnyCase, credentials, isBadHeader, headerId, headerSecret, presentedId, presentedSecret, isUnclearId, isImpostor, callClient, isInvalidClient, formReasons}
+use Rattle.protocol.specs.Token.{readExchange, readRefresh, readGrant, readToken, errorReply, refusalReply, tokenReply, refreshMember, challenges}
+use Rattle.protocol.specs.Granting.{refusedPlan, codePlan, exchangePlan, refreshPlan, planFor, slotsBy, checkSlots}
+use Rattle.protocol.specs.Outcomes.{Served, serveAuthorization, replyText, serveToken}
 use Rattle.protocol.proofs.Starred.{Case, asTheyStand, countUp, rfcQuery}
 
 -- ---- the visit's calls
@@ -43,6 +43,10 @@ basic = bytes "Basic czZCaGRSa3F0MzpnWDFmQmF0M2JW"
 exchangeBody : List ℕ
 exchangeBody =
     bytes "grant_type=authorization_code&code=000102030405060708090a0b0c0d0e0f10111213&redirect_uri=https%3A%2F%2Fclient.example.com%2Fcb"
+
+-- the same without its redirect_uri
+addressless : List ℕ
+addressless = bytes "grant_type=authorization_code&code=000102030405060708090a0b0c0d0e0f10111213"
 
 -- the same for the code of another request, with the random bytes 64 to 77 hex
 secondBody : List ℕ
@@ -56,18 +60,23 @@ refreshBody = bytes "grant_type=refresh_token&refresh_token=3435363738393a3b3c3d
 twoHandles : List ℕ
 twoHandles = countUp 40 32
 
--- the location or the reply that a call writes
+-- what a call comes to at a store
+queried : Store → ℕ → List ℕ → ℕ → List ℕ → Served AuthorizationAnswer
+queried st clock query decision random = serveAuthorization query decision 7 sampleClients (callTime st clock) (st .slots) random
+
+asked : Store → ℕ → List ℕ → List ℕ → List ℕ → Served TokenAnswer
+asked st clock header body random = serveToken header body sampleClients (callTime st clock) (st .slots) random
+
+-- the location or the reply that it writes
 locationAt : Store → ℕ → List ℕ → ℕ → List ℕ → List ℕ
-locationAt st clock query decision random =
-    let served = authorizationServed query decision 7 sampleClients st clock random (replicate 260 0) in take (served .answer .length) (served .output)
+locationAt st clock query decision random = queried st clock query decision random .text
 
 replyAt : Store → ℕ → List ℕ → List ℕ → List ℕ → List ℕ
-replyAt st clock header body random =
-    let served = tokenServed header body sampleClients st clock random (replicate 260 0) in take (served .answer .length) (served .output)
+replyAt st clock header body random = asked st clock header body random .text
 
 -- whether the call was granted
 grantedAt : Store → ℕ → List ℕ → List ℕ → List ℕ → List ℕ
-grantedAt st clock header body random = bit (isGrant (tokenServed header body sampleClients st clock random [] .answer .decision)) ∷ []
+grantedAt st clock header body random = bit (isGrant (asked st clock header body random .answer .decision)) ∷ []
 
 -- the refusal's number at the authorization endpoint
 numberAt : Decision → ℕ
@@ -75,7 +84,7 @@ numberAt Grant = 0
 numberAt (Refuse r) = refusalNumber r
 
 refusedAt : Store → ℕ → List ℕ → List ℕ
-refusedAt st clock query = numberAt (authorizationServed query 1 7 sampleClients st clock (countUp 20 0) [] .answer .decision) ∷ []
+refusedAt st clock query = numberAt (queried st clock query 1 (countUp 20 0) .answer .decision) ∷ []
 
 -- what the check says: client, farm, scope, and the hundreds and the rest of the seconds left
 said : CheckAnswer → List ℕ
@@ -88,12 +97,10 @@ checkAt st clock token = said (checkSlots (callTime st clock) (st .slots) (readH
 
 -- the store after a call
 authorized : Store → ℕ → List ℕ → List ℕ → Store
-authorized st clock query random =
-    let t = callTime st clock in record { time = t; slots = slotsAfter t (st .slots) random (readAuthorization sampleClients query 1 7) }
+authorized st clock query random = record { time = callTime st clock; slots = queried st clock query 1 random .slots }
 
 exchanged : Store → ℕ → List ℕ → List ℕ → List ℕ → Store
-exchanged st clock header body random =
-    let t = callTime st clock in record { time = t; slots = slotsAfter t (st .slots) random (readToken sampleClients header body) }
+exchanged st clock header body random = record { time = callTime st clock; slots = asked st clock header body random .slots }
 
 seenAt : Store → ℕ → Store
 seenAt st clock = record { time = callTime st clock; slots = st .slots }
@@ -123,7 +130,8 @@ cases =
     -- the exchange, its whole reply
     record {
       said = replyAt issued 1599 basic exchangeBody twoHandles;
-      paper = bytes "{\"access_token\":\"202122232425262728292a2b2c2d2e2f30313233\",\"token_type\":\"Bearer\",\"expires_in\":3600,\"refresh_token\":\"3435363738393a3b3c3d3e3f4041424344454647\",\"scope\":\"power peak bill\"}";
+      paper = bytes "{\"access_token\":\"202122232425262728292a2b2c2d2e2f30313233\",\"token_type\":\"Bearer\",\"expires_in\":3600,"
+          ++ bytes "\"refresh_token\":\"3435363738393a3b3c3d3e3f4041424344454647\",\"scope\":\"power peak bill\"}";
     }
     -- the code has run out at 1600, and stays so when the clock goes back
     ∷ record { said = replyAt issued 1600 basic exchangeBody twoHandles; paper = bytes "{\"error\":\"invalid_grant\"}" }
@@ -135,14 +143,17 @@ cases =
     ∷ record { said = grantedAt tokens 1599 basic exchangeBody (countUp 40 100); paper = 0 ∷ [] }
     ∷ record { said = grantedAt twice 1001 basic exchangeBody twoHandles; paper = 1 ∷ [] }
     ∷ record { said = grantedAt twice 1001 basic secondBody twoHandles; paper = 1 ∷ [] }
-    ∷ record { said = locationAt issued 1000 rfcQuery 1 (countUp 20 100); paper = bytes "https://client.example.com/cb?code=6465666768696a6b6c6d6e6f7071727374757677&state=xyz" }
+    ∷ record {
+      said = locationAt issued 1000 rfcQuery 1 (countUp 20 100);
+      paper = bytes "https://client.example.com/cb?code=6465666768696a6b6c6d6e6f7071727374757677&state=xyz";
+    }
     -- without its redirect_uri the code does not work, and is not spent
     ∷ record {
-      said = replyAt issued 1100 basic (bytes "grant_type=authorization_code&code=000102030405060708090a0b0c0d0e0f10111213") twoHandles;
+      said = replyAt issued 1100 basic addressless twoHandles;
       paper = bytes "{\"error\":\"invalid_grant\"}";
     }
     ∷ record {
-      said = grantedAt (exchanged issued 1100 basic (bytes "grant_type=authorization_code&code=000102030405060708090a0b0c0d0e0f10111213") twoHandles) 1100 basic exchangeBody twoHandles;
+      said = grantedAt (exchanged issued 1100 basic addressless twoHandles) 1100 basic exchangeBody twoHandles;
       paper = 1 ∷ [];
     }
     -- another client's try spends nothing either
@@ -153,9 +164,13 @@ cases =
     -- a refresh for less, its whole reply; for more, and for a name that is a prefix
     ∷ record {
       said = replyAt tokens 1700 basic (refreshBody ++ bytes "&scope=peak+power") (countUp 40 80);
-      paper = bytes "{\"access_token\":\"505152535455565758595a5b5c5d5e5f60616263\",\"token_type\":\"Bearer\",\"expires_in\":3600,\"scope\":\"power peak\"}";
+      paper = bytes "{\"access_token\":\"505152535455565758595a5b5c5d5e5f60616263\",\"token_type\":\"Bearer\","
+          ++ bytes "\"expires_in\":3600,\"scope\":\"power peak\"}";
     }
-    ∷ record { said = replyAt tokens 1700 basic (refreshBody ++ bytes "&scope=power+solar") (countUp 40 80); paper = bytes "{\"error\":\"invalid_scope\"}" }
+    ∷ record {
+      said = replyAt tokens 1700 basic (refreshBody ++ bytes "&scope=power+solar") (countUp 40 80);
+      paper = bytes "{\"error\":\"invalid_scope\"}";
+    }
     ∷ record { said = replyAt tokens 1700 basic (refreshBody ++ bytes "&scope=pow") (countUp 40 80); paper = bytes "{\"error\":\"invalid_scope\"}" }
     -- the check: client 0, farm 7, set 11, 3600 seconds at first, 99 less later, none at its expiry; a refresh token is none
     ∷ record { said = checkAt tokens 1599 (bytes "202122232425262728292a2b2c2d2e2f30313233"); paper = 0 ∷ 7 ∷ 11 ∷ 36 ∷ 0 ∷ [] }
@@ -163,7 +178,10 @@ cases =
     ∷ record { said = checkAt tokens 5199 (bytes "202122232425262728292a2b2c2d2e2f30313233"); paper = [] }
     ∷ record { said = checkAt tokens 1599 (bytes "3435363738393a3b3c3d3e3f4041424344454647"); paper = [] }
     -- an address that was never registered is refusal 7, an unknown client 6, a malformed query 5
-    ∷ record { said = refusedAt fresh 1000 (bytes "response_type=code&client_id=s6BhdRkqt3&redirect_uri=https%3A%2F%2Fevil.example%2Fcb"); paper = 7 ∷ [] }
+    ∷ record {
+      said = refusedAt fresh 1000 (bytes "response_type=code&client_id=s6BhdRkqt3&redirect_uri=https%3A%2F%2Fevil.example%2Fcb");
+      paper = 7 ∷ [];
+    }
     ∷ record { said = refusedAt fresh 1000 (bytes "response_type=code&client_id=other"); paper = 6 ∷ [] }
     ∷ record { said = refusedAt fresh 1000 (bytes "response_type=code&client_id=s6BhdRkqt3&a=%4"); paper = 5 ∷ [] }
     -- "State of 200 bytes passes, 201 is `invalid_request`."
@@ -179,5 +197,5 @@ cases =
 
 -- every case stands as the paper has it
 pub visited : asTheyStand cases ≡ true
-unfolding asTheyStand cases rfcQuery countUp basic exchangeBody secondBody refreshBody twoHandles locationAt replyAt grantedAt numberAt refusedAt said checkAt authorized exchanged seenAt issued twice tokens autumn every same indexOf splitOn grow hexText hexDigit hexValue isHandleText unhex readHandle isBase64 base64Bytes groupBytes soundGroup sextet none decodeAfter firstByte extra isEscape plain wellFormed sound encode encodeByte isWellFormedForm nameOf pieceValue gives add valueIn formValue names bitFrom bitOf union readScope chosen spaced scopeText numberOf sampleClients sampleConfidential samplePublic count any firstOr replaceFirst freeSlot fresh wordText isGrant isMissing isRepeated valueOf isOnce askedBy scopeAsked fits scopeGiven isBadQuery queryClient isBadClient isBadRedirect isSoundState isBadState isInvalidRequest isOtherType isInvalidScope readAuthorization separator stateText location codeParameter errorParameter locationText isInvalidBody lowerCase sameAnyCase credentials isBadHeader headerId headerSecret presentedId presentedSecret isUnclearId isImpostor callClient isInvalidClient readToken errorReply refusalReply tokenReply refreshMember challenges refuseIf decide decideReading granted denied slotsAfter checkSlots authorizationServed tokenServed grantReply replyText
+unfolding asTheyStand cases rfcQuery countUp basic exchangeBody addressless secondBody refreshBody twoHandles queried asked locationAt replyAt grantedAt numberAt refusedAt said checkAt authorized exchanged seenAt issued twice tokens autumn every same indexOf splitOn grow hexText hexDigit hexValue isHandleText unhex readHandle isBase64 base64Bytes groupBytes soundGroup sextet none decodeAfter firstByte extra isEscape plain wellFormed sound encode encodeByte isWellFormedForm pieceName pieceValue gives add valueIn formValue names bitFrom bitOf union readScope chosen spaced scopeText sampleClients sampleConfidential samplePublic count any indexWhere firstOr replaceFirst freeSlot fresh wordText isGrant isMissing isRepeated onlyValue isOnce askedBy scopeAsked fits scopeGiven isBadQuery queryClient isBadClient isBadRedirect isSoundState isBadState isInvalidRequest isOtherType isInvalidScope codeAsked pageReasons redirectReasons readAuthorization separator stateText location codeParameter errorParameter locationText isInvalidForm lowerCase sameAnyCase credentials isBadHeader headerId headerSecret presentedId presentedSecret isUnclearId isImpostor callClient isInvalidClient formReasons readExchange readRefresh readGrant readToken errorReply refusalReply tokenReply refreshMember challenges firstOf unlessRefused refusedPlan codePlan exchangePlan refreshPlan planFor slotsBy checkSlots serveAuthorization replyText serveToken
 visited = refl

@@ -1,6 +1,6 @@
 -- The cases of an answer: the error words as texts, and the numbers by which a C host sees each case.
 use Prim.Native.Nat.{ℕ}
-use mathlib.Core.Bool.{Bool, true, false, _&&_}
+use mathlib.Core.Bool.{Bool, true, false}
 use mathlib.Core.List.{List}
 use Rattle.octets.specs.Text.{bytes}
 use Rattle.protocol.specs.declared.ErrorWord.{ErrorWord}

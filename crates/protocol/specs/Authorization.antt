@@ -8,35 +8,39 @@ use Rattle.octets.specs.Text.{bytes}
 use Rattle.octets.specs.Lists.{every, inClass}
 use Rattle.encoding.specs.Hex.{hexText}
 use Rattle.form_coding.specs.Coding.{encode}
-use Rattle.form.specs.Content.{Value, missing, once, repeated, isWellFormedForm, formValue}
+use Rattle.form.specs.Content.{Value, missing, once, repeated, isWellFormedForm, formValue, isMissing, isRepeated, onlyValue, isOnce}
 use Rattle.client_registry.specs.Registry.{Client}
 use Rattle.client_registry.specs.Lookup.{numberOf, isKnown, clientAt}
-use Rattle.token_store.specs.Search.{any}
+use Rattle.octets.specs.Search.{any}
 use Rattle.protocol.specs.declared.ErrorWord.{ErrorWord}
 use Rattle.protocol.specs.declared.ErrorWord.the-variants.{InvalidRequest, InvalidScope, UnsupportedResponseType, AccessDenied}
-use Rattle.protocol.specs.declared.Refusal.{Refusal}
 use Rattle.protocol.specs.declared.Refusal.the-variants.{Unfit, ErrorPage, Redirect, Token, Failed}
 use Rattle.protocol.specs.declared.PageCause.the-variants.{Query as badQuery, Client as badClient, RedirectUri as badRedirect}
 use Rattle.protocol.specs.declared.Decision.{Decision}
 use Rattle.protocol.specs.declared.Decision.the-variants.{Grant, Refuse}
 use Rattle.protocol.specs.Answers.{wordText}
-use Rattle.protocol.specs.Requests.{isMissing, isRepeated, valueOf, isOnce, scopeAsked, fits, scopeGiven, Request, authorize, Reading, refused, asks}
+use Rattle.protocol.specs.declared.CodeRequest.{CodeRequest}
+use Rattle.protocol.specs.declared.Request.the-variants.{Code}
+use Rattle.protocol.specs.declared.Reading.{Reading}
+use Rattle.protocol.specs.Limits.{mostForm, mostState}
+use Rattle.protocol.specs.Refusals.{Reason, when, firstOf}
+use Rattle.protocol.specs.Requests.{scopeAsked, fits, scopeGiven, noHandle, unlessRefused}
 
 -- ---- reading the query
 
 -- refusal 5: "query over 4,096 or malformed"
 unfoldable pub isBadQuery : List ℕ → Bool
-isBadQuery query = ltb 4096 (length query) || not (isWellFormedForm query)
+isBadQuery query = ltb mostForm (length query) || not (isWellFormedForm query)
 
 -- the number of the client that the query names
 unfoldable pub queryClient : List Client → List ℕ → ℕ
-queryClient clients query = numberOf (valueOf (formValue query (bytes "client_id"))) clients
+queryClient clients query = numberOf (onlyValue (formValue query (bytes "client_id"))) clients
 
 -- refusal 6: "client_id repeated, missing or unknown; or redirect_uri repeated"
 unfoldable pub isBadClient : List Client → List ℕ → Bool
 isBadClient clients query =
     let id = formValue query (bytes "client_id") in
-    isRepeated id || isMissing id || not (isKnown (valueOf id) clients) || isRepeated (formValue query (bytes "redirect_uri"))
+    isRepeated id || isMissing id || not (isKnown (onlyValue id) clients) || isRepeated (formValue query (bytes "redirect_uri"))
 
 -- refusal 7: "redirect_uri given and not byte-equal to the registered one"
 unfoldable pub isBadRedirect : Client → List ℕ → Bool
@@ -46,7 +50,7 @@ isBadRedirect client query =
 
 -- a state that may be sent back: at most 200 bytes of 20-7E
 unfoldable pub isSoundState : List ℕ → Bool
-isSoundState state = leb (length state) 200 && every (inClass 32 126 0) state
+isSoundState state = leb (length state) mostState && every (inClass 32 126 0) state
 
 -- "state over 200 bytes or outside 20-7E"
 unfoldable pub isBadState : Value → Bool
@@ -68,22 +72,39 @@ isOtherType query = not (isOnce (bytes "code") (formValue query (bytes "response
 unfoldable pub isInvalidScope : Client → List ℕ → Bool
 isInvalidScope client query = not (fits (scopeAsked (formValue query (bytes "scope"))) (client .scope))
 
--- the first refusal that applies, or the request. "1 allows a farm number of 32 bits, any other number denies";
--- "The code is bound when redirect_uri was given."
+-- the code that the query asks for. "No scope means the client's set."; "The code is bound when redirect_uri was given."
+unfoldable pub codeAsked : List Client → List ℕ → ℕ → CodeRequest
+codeAsked clients query farm =
+    let number = queryClient clients query in
+    record {
+      client = number;
+      farm = farm;
+      scope = scopeGiven (scopeAsked (formValue query (bytes "scope"))) (clientAt clients number .scope);
+      bound = not (isMissing (formValue query (bytes "redirect_uri")));
+    }
+
+-- refusals 5 to 7, those that the client is told, and else the request. "1 allows a farm number of 32 bits, any other
+-- number denies"
+unfoldable pub pageReasons : List Client → List ℕ → List Reason
+pageReasons clients query =
+    when (isBadQuery query) (ErrorPage badQuery)
+    ∷ when (isBadClient clients query) (ErrorPage badClient)
+    ∷ when (isBadRedirect (clientAt clients (queryClient clients query)) query) (ErrorPage badRedirect)
+    ∷ []
+
+unfoldable pub redirectReasons : Client → List ℕ → ℕ → List Reason
+redirectReasons client query decision =
+    when (isInvalidRequest query) (Redirect InvalidRequest)
+    ∷ when (isOtherType query) (Redirect UnsupportedResponseType)
+    ∷ when (isInvalidScope client query) (Redirect InvalidScope)
+    ∷ when (not (eqb decision 1)) (Redirect AccessDenied)
+    ∷ []
+
 unfoldable pub readAuthorization : List Client → List ℕ → ℕ → ℕ → Reading
 readAuthorization clients query decision farm =
-    let number = queryClient clients query in
-    let client = clientAt clients number in
-    let scope = scopeGiven (scopeAsked (formValue query (bytes "scope"))) (client .scope) in
-    let bound = not (isMissing (formValue query (bytes "redirect_uri"))) in
-    cond (isBadQuery query) (refused (ErrorPage badQuery))
-    (cond (isBadClient clients query) (refused (ErrorPage badClient))
-    (cond (isBadRedirect client query) (refused (ErrorPage badRedirect))
-    (cond (isInvalidRequest query) (refused (Redirect InvalidRequest))
-    (cond (isOtherType query) (refused (Redirect UnsupportedResponseType))
-    (cond (isInvalidScope client query) (refused (Redirect InvalidScope))
-    (cond (not (eqb decision 1)) (refused (Redirect AccessDenied))
-    (asks (authorize number farm scope bound))))))))
+    let client = clientAt clients (queryClient clients query) in
+    unlessRefused (firstOf (pageReasons clients query ++ redirectReasons client query decision))
+    (record { request = Code (codeAsked clients query farm); presented = noHandle })
 
 -- ---- writing the location
 

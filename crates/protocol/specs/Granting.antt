@@ -1,4 +1,4 @@
--- Granting: what is decided of a request when the store is looked at, and what a grant leaves in the store's slots.
+-- Granting: what the store grants to a request, and what that leaves in its slots: one plan for each request.
 --
 -- `t` is the call's time T, the larger of the clock and the store's time. `random` is the call's random bytes.
 use Prim.Native.Nat.{ℕ, _+_, _-_}
@@ -9,24 +9,28 @@ use lib.ListN.{take, drop}
 use Rattle.octets.specs.Lists.{same}
 use Rattle.encoding.specs.declared.HandleText.{HandleText}
 use Rattle.token_store.specs.Layout.{handleSize}
-use Rattle.token_store.specs.Search.{count, any, firstOr, replaceFirst}
-use Rattle.token_store.specs.Store.{kindCode, kindBoundCode, kindAccess, kindRefresh, isBoundCode, isLive, isVacant, holds, codeKey, accessKey, refreshKey, freeSlot, lifetimeOf}
+use Rattle.octets.specs.Search.{count, any, firstOr, replaceFirst}
+use Rattle.token_store.specs.Store.{kindCode, kindBoundCode, kindAccess, kindRefresh, isBoundCode, isLive, isVacant, holds, soughtKey, freeSlot, lifetimeOf, issue}
 use Rattle.token_store.specs.declared.Slot.{Slot}
+use Rattle.token_store.specs.declared.Sought.{Sought}
+use Rattle.token_store.specs.declared.Sought.the-variants.{Code as soughtCode, Access as soughtAccess, Refresh as soughtRefresh}
 use Rattle.protocol.specs.declared.ErrorWord.the-variants.{InvalidGrant, InvalidScope, TemporarilyUnavailable, ServerError}
 use Rattle.protocol.specs.declared.Refusal.{Refusal}
 use Rattle.protocol.specs.declared.Refusal.the-variants.{Redirect, Token, Failed}
 use Rattle.protocol.specs.declared.Failure.the-variants.{NoRoom, Clash}
 use Rattle.protocol.specs.declared.Decision.{Decision}
 use Rattle.protocol.specs.declared.Decision.the-variants.{Grant, Refuse}
+use Rattle.protocol.specs.declared.CodeRequest.{CodeRequest}
+use Rattle.protocol.specs.declared.ExchangeRequest.{ExchangeRequest}
+use Rattle.protocol.specs.declared.RefreshRequest.{RefreshRequest}
+use Rattle.protocol.specs.declared.Request.{Request}
+use Rattle.protocol.specs.declared.Request.the-variants.{Refused, Code, Exchange, Refresh}
+use Rattle.protocol.specs.declared.Reading.{Reading}
 use Rattle.protocol.specs.declared.LiveToken.{LiveToken}
 use Rattle.protocol.specs.declared.CheckAnswer.{CheckAnswer}
-use Rattle.protocol.specs.declared.CheckAnswer.the-variants.{Refused, NotLive, Live}
-use Rattle.protocol.specs.Answers.{isGrant}
-use Rattle.protocol.specs.Requests.{ScopeAsked, fits, scopeGiven, Request, authorize, exchange, refresh, Reading, refused, asks}
-
--- "The first that applies counts."
-unfoldable pub refuseIf : Bool → Refusal → Decision → Decision
-refuseIf applies refusal later = cond applies (Refuse refusal) later
+use Rattle.protocol.specs.declared.CheckAnswer.the-variants.{NotLive, Live}
+use Rattle.protocol.specs.Refusals.{Reason, when, firstOf}
+use Rattle.protocol.specs.Requests.{fits, scopeGiven}
 
 -- ---- handles and slots
 
@@ -39,18 +43,12 @@ secondHandle random = take handleSize (drop handleSize random)
 
 -- "A look-up takes the lowest slot of the right kind (for a code, 1 or 2) and handle"; a free slot where there is none,
 -- which is never live
-abbrev pub codeSlot : HandleText → List Slot → Slot
-codeSlot presented slots = firstOr freeSlot (codeKey presented) slots
-
-abbrev pub refreshSlot : HandleText → List Slot → Slot
-refreshSlot presented slots = firstOr freeSlot (refreshKey presented) slots
-
-abbrev pub accessSlot : HandleText → List Slot → Slot
-accessSlot presented slots = firstOr freeSlot (accessKey presented) slots
+abbrev pub shownSlot : Sought → HandleText → List Slot → Slot
+shownSlot sought presented slots = firstOr freeSlot (soughtKey sought presented) slots
 
 -- "An exchange clears its code's slot (35 zero bytes)"
 abbrev pub withoutCode : HandleText → List Slot → List Slot
-withoutCode presented slots = replaceFirst (codeKey presented) freeSlot slots
+withoutCode presented slots = replaceFirst (soughtKey soughtCode presented) freeSlot slots
 
 -- how many slots are free or have run out
 abbrev pub room : ℕ → List Slot → ℕ
@@ -60,77 +58,118 @@ room t slots = count (isVacant t) slots
 abbrev pub isTaken : List ℕ → List Slot → Bool
 isTaken handle slots = any (holds handle) slots
 
--- ---- what is decided
+-- "a handle to be issued equals that of any slot in use, or two to be issued are equal"
+abbrev pub anyTaken : List ℕ → List ℕ → List Slot → Bool
+anyTaken first second slots = isTaken first slots || isTaken second slots || same first second
 
--- "`invalid_grant` (not found, run out, other client; for kind 2, redirect_uri missing or not equal to the registered one)"
-abbrev pub isGoodCode : ℕ → ℕ → Bool → Slot → Bool
-isGoodCode t client redirectAgain s = isLive t s && (eqb (s .client) client && (not (isBoundCode s) || redirectAgain))
+-- "not found, run out, other client" do not apply
+abbrev pub isOwn : ℕ → ℕ → Slot → Bool
+isOwn t client s = isLive t s && eqb (s .client) client
 
-abbrev pub isGoodRefresh : ℕ → ℕ → Slot → Bool
-isGoodRefresh t client s = isLive t s && eqb (s .client) client
-
--- Authorization: "`temporarily_unavailable` (no slot), `server_error` (random bytes equal to the handle of any slot in
--- use, run out or not)". Token: "`invalid_grant` .. `invalid_scope` .. Status 503, empty: fewer slots free or run out
--- than needed. Status 500, empty: a handle to be issued equals that of any slot in use, or two to be issued are equal."
--- An exchange's "own slot counts as free for 503, not for 500".
-unfoldable pub decide : ℕ → List Slot → List ℕ → Request → Decision
-decide t slots random (authorize client farm scope bound) =
-    refuseIf (not (leb 1 (room t slots))) (Redirect TemporarilyUnavailable)
-    (refuseIf (isTaken (firstHandle random) slots) (Redirect ServerError) Grant)
-decide t slots random (exchange client presented redirectAgain) =
-    refuseIf (not (isGoodCode t client redirectAgain (codeSlot presented slots))) (Token InvalidGrant)
-    (refuseIf (not (leb 2 (room t (withoutCode presented slots)))) (Failed NoRoom)
-    (refuseIf (isTaken (firstHandle random) slots || isTaken (secondHandle random) slots || same (firstHandle random) (secondHandle random)) (Failed Clash) Grant))
-decide t slots random (refresh client presented scope) =
-    refuseIf (not (isGoodRefresh t client (refreshSlot presented slots))) (Token InvalidGrant)
-    (refuseIf (not (fits scope (refreshSlot presented slots .scope))) (Token InvalidScope)
-    (refuseIf (not (leb 1 (room t slots))) (Failed NoRoom) (refuseIf (isTaken (firstHandle random) slots) (Failed Clash) Grant)))
-
-unfoldable pub decideReading : ℕ → List Slot → List ℕ → Reading → Decision
-decideReading t slots random (refused refusal) = Refuse refusal
-decideReading t slots random (asks request) = decide t slots random request
-
--- ---- what a grant leaves in the slots
-
--- "Expiry is T plus 600 (code), 3,600 (access), 2,592,000 (refresh)."
-abbrev pub newSlot : ℕ → ℕ → List ℕ → ℕ → ℕ → ℕ → Slot
-newSlot t kind handle client farm scope =
-    record { kind = kind; handle = handle; client = client; farm = farm; scope = scope; expiry = t + lifetimeOf kind }
-
--- "Issue takes the lowest slot that is free or has run out at T, so old room is used again."
-abbrev pub issue : ℕ → Slot → List Slot → List Slot
-issue t s slots = replaceFirst (isVacant t) s slots
+-- "A code holds its client, the farm the owner allowed and the scope granted"; "Expiry is T plus 600 (code) .."
+abbrev pub newCode : ℕ → List ℕ → CodeRequest → Slot
+newCode t handle r =
+    let kind = cond (r .bound) kindBoundCode kindCode in
+    record { kind = kind; handle = handle; client = r .client; farm = r .farm; scope = r .scope; expiry = t + lifetimeOf kind }
 
 -- "a token takes client and farm, and its scope unless a refresh asks for less, from the code or refresh token that it
 -- is issued on"
-abbrev pub accessOn : ℕ → List ℕ → Slot → ℕ → Slot
-accessOn t handle origin scope = newSlot t kindAccess handle (origin .client) (origin .farm) scope
+abbrev pub tokenOn : Slot → ℕ → ℕ → List ℕ → ℕ → Slot
+tokenOn origin t kind handle scope =
+    record { kind = kind; handle = handle; client = origin .client; farm = origin .farm; scope = scope; expiry = t + lifetimeOf kind }
 
-abbrev pub refreshOn : ℕ → List ℕ → Slot → Slot
-refreshOn t handle origin = newSlot t kindRefresh handle (origin .client) (origin .farm) (origin .scope)
+-- ---- plans
 
--- the slots after a grant. "A code holds its client, the farm the owner allowed and the scope granted"; "An exchange
--- clears its code's slot, then issues access and refresh"; "A refresh issues one access token with the asked scope, or
--- the granted one; the refresh token stays"
-unfoldable pub granted : ℕ → List Slot → List ℕ → Request → List Slot
-granted t slots random (authorize client farm scope bound) =
-    issue t (newSlot t (cond bound kindBoundCode kindCode) (firstHandle random) client farm scope) slots
-granted t slots random (exchange client presented redirectAgain) =
-    let code = codeSlot presented slots in
-    issue t (refreshOn t (secondHandle random) code)
-    (issue t (accessOn t (firstHandle random) code (code .scope)) (withoutCode presented slots))
-granted t slots random (refresh client presented scope) =
-    let token = refreshSlot presented slots in
-    issue t (accessOn t (firstHandle random) token (scopeGiven scope (token .scope))) slots
+pub record Plan : Type 0 where
+  -- why the request is refused, in the order in which the reasons count
+  pub reasons : List Reason
+  -- the slots after a grant, and after a refusal
+  pub granted : List Slot
+  pub denied : List Slot
+  -- the scope of what is issued, and whether a refresh token is
+  pub scope : ℕ
+  pub bringsRefresh : Bool
 
--- the slots after a refusal: "a refusal past 4 changes no ledger byte but the mark"
-unfoldable pub denied : ℕ → List Slot → List ℕ → Request → List Slot
-denied t slots random request = slots
+module _ (t : ℕ) (slots : List Slot) (random : List ℕ) where
+  -- a call that was refused before the store is looked at
+  unfoldable pub refusedPlan : Refusal → Plan
+  refusedPlan refusal = record { reasons = when true refusal ∷ []; granted = slots; denied = slots; scope = 0; bringsRefresh = false }
 
-unfoldable pub slotsAfter : ℕ → List Slot → List ℕ → Reading → List Slot
-slotsAfter t slots random (refused refusal) = slots
-slotsAfter t slots random (asks request) =
-    cond (isGrant (decide t slots random request)) (granted t slots random request) (denied t slots random request)
+  -- "`temporarily_unavailable` (no slot), `server_error` (random bytes equal to the handle of any slot in use, run out or not)"
+  unfoldable pub codePlan : CodeRequest → Plan
+  codePlan r = record {
+    reasons =
+        when (not (leb 1 (room t slots))) (Redirect TemporarilyUnavailable)
+        ∷ when (isTaken (firstHandle random) slots) (Redirect ServerError)
+        ∷ [];
+    granted = issue t (newCode t (firstHandle random) r) slots;
+    denied = slots;
+    scope = r .scope;
+    bringsRefresh = false;
+  }
+
+  -- "`invalid_grant` (not found, run out, other client; for kind 2, redirect_uri missing or not equal to the registered one)
+  -- .. Status 503, empty: fewer slots free or run out than needed. Status 500, empty: a handle to be issued equals that of
+  -- any slot in use, or two to be issued are equal." "An exchange clears its code's slot, then issues access and refresh";
+  -- "its own slot counts as free for 503, not for 500"
+  unfoldable pub exchangePlan : HandleText → ExchangeRequest → Plan
+  exchangePlan presented r =
+      let code = shownSlot soughtCode presented slots in
+      let access = tokenOn code t kindAccess (firstHandle random) (code .scope) in
+      let refresh = tokenOn code t kindRefresh (secondHandle random) (code .scope) in
+      record {
+        reasons =
+            when (not (isOwn t (r .client) code)) (Token InvalidGrant)
+            ∷ when (isBoundCode code && not (r .again)) (Token InvalidGrant)
+            ∷ when (not (leb 2 (room t (withoutCode presented slots)))) (Failed NoRoom)
+            ∷ when (anyTaken (firstHandle random) (secondHandle random) slots) (Failed Clash)
+            ∷ [];
+        granted = issue t refresh (issue t access (withoutCode presented slots));
+        denied = slots;
+        scope = code .scope;
+        bringsRefresh = true;
+      }
+
+  -- "`invalid_grant` (not found, run out, other client) .. `invalid_scope` (refresh: bad form, unknown name, or beyond the
+  -- granted set)", 503 and 500. "A refresh issues one access token with the asked scope, or the granted one; the refresh
+  -- token stays"
+  unfoldable pub refreshPlan : HandleText → RefreshRequest → Plan
+  refreshPlan presented r =
+      let token = shownSlot soughtRefresh presented slots in
+      let scope = scopeGiven (r .scope) (token .scope) in
+      record {
+        reasons =
+            when (not (isOwn t (r .client) token)) (Token InvalidGrant)
+            ∷ when (not (fits (r .scope) (token .scope))) (Token InvalidScope)
+            ∷ when (not (leb 1 (room t slots))) (Failed NoRoom)
+            ∷ when (isTaken (firstHandle random) slots) (Failed Clash)
+            ∷ [];
+        granted = issue t (tokenOn token t kindAccess (firstHandle random) scope) slots;
+        denied = slots;
+        scope = scope;
+        bringsRefresh = false;
+      }
+
+  unfoldable pub planFor : HandleText → Request → Plan
+  planFor presented (Refused refusal) = refusedPlan refusal
+  planFor presented (Code r) = codePlan r
+  planFor presented (Exchange r) = exchangePlan presented r
+  planFor presented (Refresh r) = refreshPlan presented r
+
+  abbrev pub planOf : Reading → Plan
+  planOf reading = planFor (reading .presented) (reading .request)
+
+-- ---- what is decided, and what that leaves: "a refusal past 4 changes no ledger byte but the mark"
+
+abbrev pub decisionOn : Plan → Decision
+decisionOn plan = firstOf (plan .reasons)
+
+unfoldable pub slotsBy : Decision → Plan → List Slot
+slotsBy Grant plan = plan .granted
+slotsBy (Refuse refusal) plan = plan .denied
+
+abbrev pub slotsAfter : Plan → List Slot
+slotsAfter plan = slotsBy (decisionOn plan) plan
 
 -- ---- the check
 
@@ -140,4 +179,4 @@ liveToken t s = record { client = s .client; farm = s .farm; scope = s .scope; l
 
 unfoldable pub checkSlots : ℕ → List Slot → HandleText → CheckAnswer
 checkSlots t slots presented =
-    let s = accessSlot presented slots in cond (isLive t s) (Live (liveToken t s)) NotLive
+    let s = shownSlot soughtAccess presented slots in cond (isLive t s) (Live (liveToken t s)) NotLive

@@ -2,8 +2,8 @@
 --
 -- Every function here is total: it says what happens for every input, fit or not.
 use Prim.Native.Nat.{ℕ}
-use mathlib.Core.Bool.{Bool, true, false, not, _||_}
-use mathlib.Core.List.{List, []}
+use mathlib.Core.Bool.{Bool, false, cond, not, _||_}
+use mathlib.Core.List.{List, [], _∷_}
 use lib.Dec.{ltb, eqb}
 use lib.ListN.{length}
 use lib.Seq.{sets}
@@ -13,123 +13,142 @@ use Rattle.form.specs.Content.{formValue}
 use Rattle.client_registry.specs.Registry.{Client, fitRegistry, clientsOf}
 use Rattle.client_registry.specs.Lookup.{clientAt}
 use Rattle.token_store.specs.Layout.{latestTime}
-use Rattle.token_store.specs.Store.{Store, callTime, decode, encode}
+use Rattle.token_store.specs.Store.{callTime, decode, encode}
 use Rattle.token_store.specs.Fit.{fitStore}
 use Rattle.token_store.specs.declared.Slot.{Slot}
 use Rattle.protocol.specs.declared.Refusal.{Refusal}
 use Rattle.protocol.specs.declared.Refusal.the-variants.{Unfit}
-use Rattle.protocol.specs.declared.Input.the-variants.{Buffers, Registry, Store as StoreInput, Clock}
+use Rattle.protocol.specs.declared.Input.the-variants.{Buffers, Registry, Store, Clock}
 use Rattle.protocol.specs.declared.Decision.{Decision}
 use Rattle.protocol.specs.declared.Decision.the-variants.{Grant, Refuse}
 use Rattle.protocol.specs.declared.AuthorizationAnswer.{AuthorizationAnswer}
 use Rattle.protocol.specs.declared.TokenAnswer.{TokenAnswer}
 use Rattle.protocol.specs.declared.CheckAnswer.{CheckAnswer}
-use Rattle.protocol.specs.declared.CheckAnswer.the-variants.{Refused, NotLive, Live}
+use Rattle.protocol.specs.declared.CheckAnswer.the-variants.{Refused}
+use Rattle.protocol.specs.Limits.{leastOutput, codeRandom, tokenRandom}
 use Rattle.protocol.specs.Answers.{statusOf}
-use Rattle.protocol.specs.Requests.{scopeGiven, Request, authorize, exchange, refresh, Reading, refused, asks}
+use Rattle.protocol.specs.Refusals.{Reason, when, firstOf}
 use Rattle.protocol.specs.Authorization.{queryClient, readAuthorization, locationText}
 use Rattle.protocol.specs.Token.{readToken, refusalReply, tokenReply, refreshMember, challenges}
-use Rattle.protocol.specs.Granting.{refuseIf, firstHandle, secondHandle, codeSlot, refreshSlot, decideReading, slotsAfter, checkSlots}
+use Rattle.protocol.specs.Granting.{Plan, firstHandle, secondHandle, planOf, decisionOn, slotsAfter, checkSlots}
+
+-- ---- any call
+
+-- what every call is handed besides its own arguments, the registry and the store
+pub record Handed : Type 0 where
+  pub clock : ℕ
+  pub random : List ℕ
+  pub output : List ℕ
+
+-- what a call past refusals 1 to 4 comes to: its answer, the text at the start of the output, the store's slots
+pub record Served (Answer : Type 0) : Type 0 where
+  pub answer : Answer
+  pub text : List ℕ
+  pub slots : List Slot
+
+-- an endpoint: whether the buffers are unfit, how it answers refusals 1 to 4, and how it serves the calls past them, from
+-- the clients, the call's time, the slots and the random bytes
+pub record Endpoint (Answer : Type 0) : Type 0 where
+  pub unfit : Handed → Bool
+  pub refuse : Refusal → Answer
+  pub serve : List Client → ℕ → List Slot → List ℕ → Served Answer
 
 pub record Outcome (Answer : Type 0) : Type 0 where
   pub answer : Answer
   pub output : List ℕ
   pub store : List ℕ
 
--- ---- refusals 1 to 4
+-- refusals 1 to 4
+abbrev pub unfitReasons : Bool → List ℕ → List ℕ → ℕ → List Reason
+unfitReasons buffersUnfit registry store clock =
+    when buffersUnfit (Unfit Buffers)
+    ∷ when (not (fitRegistry registry)) (Unfit Registry)
+    ∷ when (not (fitStore (length (clientsOf registry)) store)) (Unfit Store)
+    ∷ when (ltb latestTime clock) (Unfit Clock)
+    ∷ []
+
+unfoldable pub admit : Bool → List ℕ → List ℕ → ℕ → Decision
+admit buffersUnfit registry store clock = firstOf (unfitReasons buffersUnfit registry store clock)
+
+module _ {Answer : Type 0} (endpoint : Endpoint Answer) (registry store : List ℕ) (handed : Handed) where
+  -- "Every call past refusals 1 to 4, whatever it answers, stores T as mark."; "1 to 4 change no byte"
+  unfoldable pub outcomeBy : Decision → Outcome Answer
+  outcomeBy Grant =
+      let st = decode store in
+      let t = callTime st (handed .clock) in
+      let served = endpoint .serve (clientsOf registry) t (st .slots) (handed .random) in
+      record {
+        answer = served .answer;
+        output = sets (handed .output) 0 (served .text);
+        store = encode (record { time = t; slots = served .slots });
+      }
+  outcomeBy (Refuse refusal) = record { answer = endpoint .refuse refusal; output = handed .output; store = store }
+
+  unfoldable pub outcome : Outcome Answer
+  outcome = outcomeBy (admit (endpoint .unfit handed) registry store (handed .clock))
 
 -- "output below 1,024, or random bytes not 20 (token: 40)"
-abbrev pub leastOutput : ℕ
-leastOutput = 1024
-
 abbrev pub unfitBuffers : ℕ → List ℕ → List ℕ → Bool
 unfitBuffers randomSize random output = ltb (length output) leastOutput || not (eqb (length random) randomSize)
 
--- the first of refusals 1 to 4 that applies, or none
-unfoldable pub admit : Bool → List ℕ → List ℕ → ℕ → Decision
-admit buffersUnfit registry store clock =
-    refuseIf buffersUnfit (Unfit Buffers)
-    (refuseIf (not (fitRegistry registry)) (Unfit Registry)
-    (refuseIf (not (fitStore (length (clientsOf registry)) store)) (Unfit StoreInput) (refuseIf (ltb latestTime clock) (Unfit Clock) Grant)))
-
--- "Every call past refusals 1 to 4, whatever it answers, stores T as mark."
-abbrev pub storeAfter : Store → ℕ → List Slot → List ℕ
-storeAfter st clock slots = encode (record { time = callTime st clock; slots = slots })
-
 -- ---- the authorization endpoint
 
-unfoldable pub authorizationServed : List ℕ → ℕ → ℕ → List Client → Store → ℕ → List ℕ → List ℕ → Outcome AuthorizationAnswer
-authorizationServed query decision farm clients st clock random output =
-    let t = callTime st clock in
-    let reading = readAuthorization clients query decision farm in
-    let decided = decideReading t (st .slots) random reading in
+unfoldable pub serveAuthorization : List ℕ → ℕ → ℕ → List Client → ℕ → List Slot → List ℕ → Served AuthorizationAnswer
+serveAuthorization query decision farm clients t slots random =
+    let plan = planOf t slots random (readAuthorization clients query decision farm) in
     let client = clientAt clients (queryClient clients query) in
-    let text = locationText (client .redirect) (formValue query (bytes "state")) (firstHandle random) decided in
-    record {
-      answer = record { decision = decided; length = length text };
-      output = sets output 0 text;
-      store = storeAfter st clock (slotsAfter t (st .slots) random reading);
-    }
+    let text = locationText (client .redirect) (formValue query (bytes "state")) (firstHandle random) (decisionOn plan) in
+    record { answer = record { decision = decisionOn plan; length = length text }; text = text; slots = slotsAfter plan }
 
--- past refusals 1 to 4 the call is served; they "change no byte"
-unfoldable pub authorizationAdmitted : Decision → List ℕ → ℕ → ℕ → List ℕ → List ℕ → ℕ → List ℕ → List ℕ → Outcome AuthorizationAnswer
-authorizationAdmitted Grant query decision farm registry store clock random output =
-    authorizationServed query decision farm (clientsOf registry) (decode store) clock random output
-authorizationAdmitted (Refuse refusal) query decision farm registry store clock random output =
-    record { answer = record { decision = Refuse refusal; length = 0 }; output = output; store = store }
+abbrev pub authorizationEndpoint : List ℕ → ℕ → ℕ → Endpoint AuthorizationAnswer
+authorizationEndpoint query decision farm = record {
+  unfit = λ handed. unfitBuffers codeRandom (handed .random) (handed .output);
+  refuse = λ refusal. record { decision = Refuse refusal; length = 0 };
+  serve = serveAuthorization query decision farm;
+}
 
-unfoldable pub authorizationOutcome : List ℕ → ℕ → ℕ → List ℕ → List ℕ → ℕ → List ℕ → List ℕ → Outcome AuthorizationAnswer
-authorizationOutcome query decision farm registry store clock random output =
-    authorizationAdmitted (admit (unfitBuffers 20 random output) registry store clock) query decision farm registry store clock random output
+abbrev pub authorizationOutcome : List ℕ → ℕ → ℕ → List ℕ → List ℕ → Handed → Outcome AuthorizationAnswer
+authorizationOutcome query decision farm registry store handed = outcome (authorizationEndpoint query decision farm) registry store handed
 
 -- ---- the token endpoint
 
--- the reply to a request that is granted, from the slots before the call
-unfoldable pub grantReply : List Slot → List ℕ → Request → List ℕ
-grantReply slots random (authorize client farm scope bound) = []
-grantReply slots random (exchange client presented redirectAgain) =
-    tokenReply (firstHandle random) (refreshMember (secondHandle random)) (codeSlot presented slots .scope)
-grantReply slots random (refresh client presented scope) =
-    tokenReply (firstHandle random) [] (scopeGiven scope (refreshSlot presented slots .scope))
+-- the reply to a decision on a plan: "the refresh token stays, and the reply has no refresh_token"
+unfoldable pub replyText : List ℕ → Plan → Decision → List ℕ
+replyText random plan Grant =
+    tokenReply (firstHandle random) (cond (plan .bringsRefresh) (refreshMember (secondHandle random)) []) (plan .scope)
+replyText random plan (Refuse refusal) = refusalReply refusal
 
-unfoldable pub replyText : List Slot → List ℕ → Reading → Decision → List ℕ
-replyText slots random reading (Refuse refusal) = refusalReply refusal
-replyText slots random (refused refusal) Grant = []
-replyText slots random (asks request) Grant = grantReply slots random request
-
-unfoldable pub tokenServed : List ℕ → List ℕ → List Client → Store → ℕ → List ℕ → List ℕ → Outcome TokenAnswer
-tokenServed header body clients st clock random output =
-    let t = callTime st clock in
-    let reading = readToken clients header body in
-    let decided = decideReading t (st .slots) random reading in
-    let text = replyText (st .slots) random reading decided in
+unfoldable pub serveToken : List ℕ → List ℕ → List Client → ℕ → List Slot → List ℕ → Served TokenAnswer
+serveToken header body clients t slots random =
+    let plan = planOf t slots random (readToken clients header body) in
+    let decided = decisionOn plan in
+    let text = replyText random plan decided in
     record {
       answer = record { decision = decided; challenge = challenges (statusOf decided) header; length = length text };
-      output = sets output 0 text;
-      store = storeAfter st clock (slotsAfter t (st .slots) random reading);
+      text = text;
+      slots = slotsAfter plan;
     }
 
-unfoldable pub tokenAdmitted : Decision → List ℕ → List ℕ → List ℕ → List ℕ → ℕ → List ℕ → List ℕ → Outcome TokenAnswer
-tokenAdmitted Grant header body registry store clock random output =
-    tokenServed header body (clientsOf registry) (decode store) clock random output
-tokenAdmitted (Refuse refusal) header body registry store clock random output =
-    record { answer = record { decision = Refuse refusal; challenge = false; length = 0 }; output = output; store = store }
+abbrev pub tokenEndpoint : List ℕ → List ℕ → Endpoint TokenAnswer
+tokenEndpoint header body = record {
+  unfit = λ handed. unfitBuffers tokenRandom (handed .random) (handed .output);
+  refuse = λ refusal. record { decision = Refuse refusal; challenge = false; length = 0 };
+  serve = serveToken header body;
+}
 
-unfoldable pub tokenOutcome : List ℕ → List ℕ → List ℕ → List ℕ → ℕ → List ℕ → List ℕ → Outcome TokenAnswer
-tokenOutcome header body registry store clock random output =
-    tokenAdmitted (admit (unfitBuffers 40 random output) registry store clock) header body registry store clock random output
+abbrev pub tokenOutcome : List ℕ → List ℕ → List ℕ → List ℕ → Handed → Outcome TokenAnswer
+tokenOutcome header body registry store handed = outcome (tokenEndpoint header body) registry store handed
 
--- ---- the access token check, which has no output and no refusal 1
+-- ---- the access token check, which is handed a clock alone and has no refusal 1
 
-unfoldable pub checkAdmitted : Decision → List ℕ → List ℕ → ℕ → Outcome CheckAnswer
-checkAdmitted Grant token store clock =
-    let st = decode store in
-    record {
-      answer = checkSlots (callTime st clock) (st .slots) (readHandle token);
-      output = [];
-      store = storeAfter st clock (st .slots);
-    }
-checkAdmitted (Refuse refusal) token store clock = record { answer = Refused refusal; output = []; store = store }
+abbrev pub clockAlone : ℕ → Handed
+clockAlone clock = record { clock = clock; random = []; output = [] }
 
-unfoldable pub checkOutcome : List ℕ → List ℕ → List ℕ → ℕ → Outcome CheckAnswer
-checkOutcome token registry store clock = checkAdmitted (admit false registry store clock) token store clock
+unfoldable pub serveCheck : List ℕ → List Client → ℕ → List Slot → List ℕ → Served CheckAnswer
+serveCheck token clients t slots random = record { answer = checkSlots t slots (readHandle token); text = []; slots = slots }
+
+abbrev pub checkEndpoint : List ℕ → Endpoint CheckAnswer
+checkEndpoint token = record { unfit = λ handed. false; refuse = Refused; serve = serveCheck token }
+
+abbrev pub checkOutcome : List ℕ → List ℕ → List ℕ → ℕ → Outcome CheckAnswer
+checkOutcome token registry store clock = outcome (checkEndpoint token) registry store (clockAlone clock)

@@ -1,41 +1,22 @@
--- What a call comes to once its arguments are read, before the store is looked at; and what is read of a form's values.
+-- What a call comes to once its arguments are read, before the store is looked at: the scope it asks for, and a request or
+-- the refusal that comes before it. The types of requests are those of src/lib.rt.
 use Prim.Native.Nat.{ℕ}
 use mathlib.Core.Bool.{Bool, true, false}
-use mathlib.Core.List.{List, []}
-use Rattle.octets.specs.Lists.{same}
+use lib.ListN.{replicate}
 use Rattle.encoding.specs.declared.HandleText.{HandleText}
 use Rattle.form.specs.Content.{Value, missing, once, repeated}
 use Rattle.scope.specs.Set.{isWithin, ofByte}
 use Rattle.scope.specs.Value.{readScope}
 use Rattle.scope.specs.declared.ScopeValue.{ScopeValue}
 use Rattle.scope.specs.declared.ScopeValue.the-variants.{Names, Invalid}
+use Rattle.token_store.specs.Layout.{handleSize}
 use Rattle.protocol.specs.declared.Refusal.{Refusal}
+use Rattle.protocol.specs.declared.Decision.{Decision}
+use Rattle.protocol.specs.declared.Decision.the-variants.{Grant, Refuse}
+use Rattle.protocol.specs.declared.ScopeAsked.{ScopeAsked}
 use Rattle.protocol.specs.declared.ScopeAsked.the-variants.{Everything, Only, Unreadable}
-pub use Rattle.protocol.specs.declared.ScopeAsked.{ScopeAsked}
-
--- ---- what a form says of a name
-
-unfoldable pub isMissing : Value → Bool
-isMissing missing = true
-isMissing (once v) = false
-isMissing repeated = false
-
-unfoldable pub isRepeated : Value → Bool
-isRepeated missing = false
-isRepeated (once v) = false
-isRepeated repeated = true
-
--- the one value; nothing where the name is missing or repeated
-unfoldable pub valueOf : Value → List ℕ
-valueOf missing = []
-valueOf (once v) = v
-valueOf repeated = []
-
--- the name came once, with these bytes
-unfoldable pub isOnce : List ℕ → Value → Bool
-isOnce e missing = false
-isOnce e (once v) = same v e
-isOnce e repeated = false
+use Rattle.protocol.specs.declared.Request.the-variants.{Refused}
+use Rattle.protocol.specs.declared.Reading.{Reading}
 
 -- ---- the scope asked for
 
@@ -60,18 +41,16 @@ scopeGiven Everything granted = granted
 scopeGiven (Only s) granted = s
 scopeGiven Unreadable granted = granted
 
--- ---- requests
+-- ---- readings
 
--- A request that nothing but the store can refuse any more. `client` is the client's number.
-pub data Request : Type 0 where
-  -- a code for this client, farm and scope; whether redirect_uri was given, so that the code is bound to it
-  authorize : (client farm scope : ℕ) (bound : Bool) → Request
-  -- the code presented is exchanged; whether redirect_uri came again, equal to the registered one
-  exchange : (client : ℕ) (presented : HandleText) (redirectAgain : Bool) → Request
-  -- an access token on the refresh token presented
-  refresh : (client : ℕ) (presented : HandleText) (scope : ScopeAsked) → Request
+-- a text that is no handle: what a call presents that presents none
+abbrev pub noHandle : HandleText
+noHandle = record { valid = false; bytes = replicate handleSize 0 }
 
--- what reading a call gives: a refusal that needs no look at the store, or a request
-pub data Reading : Type 0 where
-  refused : Refusal → Reading
-  asks : Request → Reading
+abbrev pub refusedReading : Refusal → Reading
+refusedReading refusal = record { request = Refused refusal; presented = noHandle }
+
+-- what is read, unless a reason to refuse it came first
+unfoldable pub unlessRefused : Decision → Reading → Reading
+unlessRefused Grant reading = reading
+unlessRefused (Refuse refusal) reading = refusedReading refusal

@@ -1,7 +1,12 @@
-// protocol: the answers of the three endpoints as types, and what the whole server must do as definitions (specs/).
+// protocol: what calls ask and what they are answered as types, and what the whole server must do as definitions (specs/).
 //
 // The definitions say, from raw bytes and numbers alone, what each endpoint answers, writes to the output and leaves
 // in the token store, for every input. The endpoints' crates are proved against them.
+use encoding::HandleText;
+
+pub mod limits;
+
+// ---- refusals
 
 // The error words of RFC 6749 that this server says.
 pub enum ErrorWord {
@@ -46,12 +51,51 @@ pub enum Refusal {
     Failed(Failure),
 }
 
+// ---- requests: what a call asks of the store, once its arguments are read. `client` is the client's number.
+
 // The scope that a request asks for: none, so all that may be had; a set; or a value that is no scope.
 pub enum ScopeAsked {
     Everything,
     Only(u8),
     Unreadable,
 }
+
+// A code for a farm and a scope. `bound` says that redirect_uri was given, so that it must be repeated.
+pub struct CodeRequest {
+    pub client: u8,
+    pub farm: u32,
+    pub scope: u8,
+    pub bound: bool,
+}
+
+// Tokens for the code presented. `again` says that redirect_uri came, equal to the registered one.
+pub struct ExchangeRequest {
+    pub client: u8,
+    pub again: bool,
+}
+
+// An access token on the refresh token presented.
+pub struct RefreshRequest {
+    pub client: u8,
+    pub scope: ScopeAsked,
+}
+
+// What is asked, or the refusal that came before the store was looked at.
+pub enum Request {
+    Refused(Refusal),
+    Code(CodeRequest),
+    Exchange(ExchangeRequest),
+    Refresh(RefreshRequest),
+}
+
+// A call as it was read: its request, and the code or refresh token that it presents. A request that presents none has
+// a text that is no handle.
+pub struct Reading {
+    pub request: Request,
+    pub presented: HandleText,
+}
+
+// ---- answers
 
 // Whether a call was granted: a code at the authorization endpoint, tokens at the token endpoint.
 pub enum Decision {

@@ -1,7 +1,7 @@
 -- Laws of scope sets: what is in a set that was joined, met or compared, and sets that have the same names.
 --
 -- In order: one binary digit; `has` of the operations and of the two named sets; joining again; a set is the set of its
--- names, for numbers of any number of digits; the bounds; `isWithin` as a fact of every name.
+-- names, for numbers of any number of digits; the bound of `meet`; `isWithin` as a fact of every name.
 --
 -- Not here: the laws of `bitOr` and `bitAnd` that do not speak of `has` (`lib.Bits`); the names as texts (`Names`).
 -- Assumes nothing.
@@ -13,13 +13,13 @@ use native.Mathlib.Numerals.{one-add}
 use native.Mathlib.Omega.{arith}
 use borrow.Author.Tests.{eq-eqb, eqb-true}
 use lib.Arith.{digits-mod, bin-ind}
-use lib.Bits.{bitAnd, bitOr, and-step, or-step, and-shr, or-shr, or-lt, and-le-l}
+use lib.Bits.{bitAnd, bitOr, and-step, or-step, and-shr, or-shr, and-le-l}
 use lib.Dec.{eqb, lit<}
 use lib.ListN.{replicate}
 use lib.Pow.{shr-shr}
-use Rattle.octets.proofs.Booleans.{and-right, of-T}
+use Rattle.octets.proofs.Booleans.{and-right, and-implied, of-T}
 use Rattle.octets.proofs.Table.{at}
-use Rattle.scope.specs.Set.{has, emptySet, fullSet, join, meet, isWithin}
+use Rattle.scope.specs.Set.{has, emptySet, fullSet, meet, isWithin}
 use Rattle.scope.specs.declared.Scope.{Scope}
 
 -- ---- one binary digit
@@ -109,12 +109,9 @@ same-members (suc n) a b ha hb h =
     let d = same-digit (a % 2) (b % 2) (mod-lt a (lit< tt)) (mod-lt b (lit< tt)) (sym (has-lowest a) ∙ h 0 (omega arith) ∙ has-lowest b) in
     omega arith
 
--- ---- bounds
+-- ---- the bound
 
-pub join-bound : (a b : Scope) → a .bits < 256 → b .bits < 256 → join a b .bits < 256
-join-bound a b = or-lt 8 (a .bits) (b .bits)
-
-pub meet-bound : (a b : Scope) → a .bits < 256 → meet a b .bits < 256
+meet-bound : (a b : Scope) → a .bits < 256 → meet a b .bits < 256
 meet-bound a b ha = lt-of-le-of-lt (and-le-l (a .bits) (b .bits)) ha
 
 -- ---- a set within another
@@ -124,14 +121,10 @@ within-has a b k w h =
     let e : bitAnd (a .bits) (b .bits) ≡ a .bits = eqb-true (bitAnd (a .bits) (b .bits)) (a .bits) w in
     and-right (has (a .bits) k) (has (b .bits) k) (sym (has-meet (a .bits) (b .bits) k) ∙ ap (λ (n : ℕ). has n k) e ∙ h)
 
-implied : (p q : Bool) → (p ≡ true → q ≡ true) → (p && q) ≡ p
-implied true q h = h refl
-implied false q h = refl
-
 -- and the other way round, for the eight names
 pub has-within : (a b : Scope) → a .bits < 256 → ((k : ℕ) → k < 8 → has (a .bits) k ≡ true → has (b .bits) k ≡ true) → isWithin a b ≡ true
 has-within a b ha h =
     let x = a .bits in
     let y = b .bits in
     eq-eqb (bitAnd x y) x
-    (same-members 8 (bitAnd x y) x (meet-bound a b ha) ha (λ k l. has-meet x y k ∙ implied (has x k) (has y k) (h k l)))
+    (same-members 8 (bitAnd x y) x (meet-bound a b ha) ha (λ k l. has-meet x y k ∙ and-implied (has x k) (has y k) (h k l)))

@@ -1,25 +1,23 @@
 -- How the reader and the writer of a scope value go on: what is left to read, or to write, gives the whole.
 --
--- In order: reading, one text after the other; writing, one name after the other; a run of stores in two.
+-- In order: reading, one text after the other; writing, one name after the other.
 --
 -- Not here: what was read and what is written, as a whole (`Value`); the loop over the table of names (`Names`).
 -- Assumes nothing.
 use Prim.Native.Nat.{ℕ, suc, _+_, _≤_, _<_}
 use mathlib.Core.Path.{_≡_, refl, sym, _∙_, ap}
-use mathlib.Core.Bool.{Bool, true, false, cond}
+use mathlib.Core.Bool.{Bool, true, false, cond, not, _&&_}
 use mathlib.Core.List.{List, [], _∷_, _++_, append-nil}
-use native.Mathlib.Omega.{arith}
 use native.Mathlib.Numerals.{add-one}
 use borrow.Author.Tests.{eq-eqb, ne-eqb}
 use lib.Bits.{or-zero-r}
 use lib.Dec.{leb·zero}
-use lib.ListN.{length, drop, drop-of-length-le, length-append}
-use lib.Seq.{sets, drop-cons}
+use lib.ListN.{length, drop, drop-of-length-le}
+use lib.Seq.{drop-cons}
 use Rattle.octets.specs.Lists.{part, indexOf, every}
 use Rattle.octets.proofs.Pieces.{remaining, remaining-step, remaining-end}
-use Rattle.octets.proofs.Stores.{sets-append}
 use Rattle.scope.specs.Set.{names, nameAt, has, ofByte, emptySet, join}
-use Rattle.scope.specs.Value.{bitOf, isName, union, readScope, chosen, spaced, behind, scopeText}
+use Rattle.scope.specs.Value.{bitOf, isName, union, readScope, chosen, spaced, nameText, scopeText}
 use Rattle.scope.specs.declared.Scope.{Scope}
 use Rattle.scope.specs.declared.ScopeValue.{ScopeValue}
 use Rattle.scope.specs.declared.ScopeValue.the-variants.{Names, Invalid}
@@ -66,38 +64,35 @@ unfolding spaced led
 spaced-cons n [] = sym (append-nil n)
 spaced-cons n (m ∷ ms) = rw (spaced-cons m ms)
 
-led-cons : (first : Bool) (n : List ℕ) (ns : List (List ℕ)) → cond first (spaced (n ∷ ns)) (led (n ∷ ns)) ≡ behind first n ++ led ns
-unfolding led
-led-cons true n ns = spaced-cons n ns
-led-cons false n ns = refl
-
 -- what is left to write of a set from place k on; `first` where no name was written before
 unfoldable pub unwritten : ℕ → ℕ → Bool → List ℕ
 unfolding led
 unwritten set k first = let ns = chosen set k (drop k names) in cond first (spaced ns) (led ns)
 
-pub write-start : (set : ℕ) → unwritten set 0 true ≡ scopeText set
+pub text-start : (set : ℕ) → unwritten set 0 true ≡ scopeText set
 unfolding unwritten scopeText
-write-start set = refl
+text-start set = refl
 
-module _ (set k : ℕ) (first : Bool) (h : k < 8) where
-  pub write-name : has set k ≡ true → unwritten set k first ≡ behind first (nameAt k) ++ unwritten set (k + 1) false
-  unfolding unwritten led chosen names
-  write-name e = rw (add-one, drop-cons names k [] h, e) (led-cons first (nameAt k) (chosen set (suc k) (drop (suc k) names)))
+-- the name at place k, and the rest behind it
+pub text-step : (set k : ℕ) (first : Bool) → k < 8
+    → unwritten set k first ≡ nameText (has set k) first k ++ unwritten set (k + 1) (first && not (has set k))
+unfolding unwritten nameText led chosen names
+text-step set k first h = rw (add-one, drop-cons names k [] h) (by (has set k) first)
+  where
+    rest : List (List ℕ)
+    rest = chosen set (suc k) (drop (suc k) names)
 
-  pub write-other : has set k ≡ false → unwritten set k first ≡ unwritten set (k + 1) first
-  unfolding unwritten led chosen names
-  write-other e = rw (add-one, drop-cons names k [] h, e)
+    written : Bool → List (List ℕ) → List ℕ
+    written first ns = cond first (spaced ns) (led ns)
 
-pub write-end : (set k : ℕ) (first : Bool) → 8 ≤ k → unwritten set k first ≡ []
+    by : (q first : Bool)
+        → written first (cond q (nameAt k ∷ rest) rest) ≡ cond q (cond first (nameAt k) (32 ∷ nameAt k)) [] ++ written (first && not q) rest
+    by true true = spaced-cons (nameAt k) rest
+    by true false = refl
+    by false true = refl
+    by false false = refl
+
+pub text-end : (set k : ℕ) (first : Bool) → 8 ≤ k → unwritten set k first ≡ []
 unfolding unwritten led chosen names spaced
-write-end set k true h = rw (drop-of-length-le names h)
-write-end set k false h = rw (drop-of-length-le names h)
-
--- ---- a run of stores in two
-
--- the front of a run is stored: to store the rest behind it gives the whole run
-pub run-front : (b c u r rest : List ℕ) (at next : ℕ) → r ≡ u ++ rest → next ≡ at + length u → c ≡ sets b at u
-    → (next + length rest ≡ at + length r) × (sets c next rest ≡ sets b at r)
-run-front b c u r rest at next e n s =
-    (rw (e, n) (omega (arith, length-append u rest)), rw (s, n, e) (sets-append b at u rest))
+text-end set k true h = rw (drop-of-length-le names h)
+text-end set k false h = rw (drop-of-length-le names h)

@@ -5,19 +5,19 @@
 --
 -- Not here: one step of the reader or of the writer (`Steps`); the number of one name (`Names`); sets alone (`Set`).
 -- Assumes nothing.
-use Prim.Native.Nat.{ℕ, suc, _≤_, _<_}
+use Prim.Native.Nat.{ℕ, _≤_, _<_}
 use mathlib.Core.Path.{_≡_, refl, sym, _∙_, ap, ap₂}
-use mathlib.Core.Bool.{Bool, true, false, cond, _&&_, _||_, false≢true, or-true}
+use mathlib.Core.Bool.{Bool, true, false, _&&_, _||_, false≢true, or-true}
 use mathlib.Core.List.{List, [], _∷_}
 use native.Mathlib.Omega.{arith}
-use borrow.Author.Tests.{eqb-true, eqb-false, ne-eqb, not-true, ltb-true, leb-true}
+use borrow.Author.Tests.{eqb-true, eqb-false, ne-eqb, not-true, leb-true}
 use lib.Bits.{bitOr, or-lt, or-add-and, and-le-r}
-use lib.Dec.{T, eqb, ltb, leb}
+use lib.Dec.{T, eqb, leb}
 use lib.ListN.{length, replicate}
-use Rattle.octets.specs.Lists.{Bytes, every, same, splitOn, grow}
+use Rattle.octets.specs.Lists.{every, same, splitOn, grow}
 use Rattle.octets.proofs.Pieces.{split-first}
-use Rattle.octets.proofs.Booleans.{and-left, and-right, of-T}
-use Rattle.octets.proofs.Lists.{same-refl, same-eq, every-append, nil-bytes, cons-bytes}
+use Rattle.octets.proofs.Booleans.{by-test, and-left, and-right, both-ways, of-T}
+use Rattle.octets.proofs.Lists.{same-refl, same-eq}
 use Rattle.octets.proofs.Table.{everyFrom, at}
 use Rattle.scope.specs.Set.{names, nameAt, has, ofByte}
 use Rattle.scope.specs.Value.{bitFrom, bitOf, isName, isAmong, union, readScope, chosen, spaced, scopeText}
@@ -32,12 +32,11 @@ use Rattle.scope.proofs.Names.{bit-bound, has-bit}
 -- a set was read of names alone, and is theirs
 pub read-told : (v : List ℕ) (s : Scope) → readScope v ≡ Names s → (every isName (splitOn 32 v) ≡ true) × (s .bits ≡ union (splitOn 32 v))
 unfolding readScope
-read-told v s e = by (every isName (splitOn 32 v)) refl e
-  where
-    by : (q : Bool) → every isName (splitOn 32 v) ≡ q → cond q (Names (ofByte (union (splitOn 32 v)))) Invalid ≡ Names s
-        → (every isName (splitOn 32 v) ≡ true) × (s .bits ≡ union (splitOn 32 v))
-    by true f g = let w : s ≡ ofByte (union (splitOn 32 v)) = cc in (f, ap (λ (x : Scope). x .bits) w)
-    by false f g = let z : _≡_ {A = ℕ} 0 1 = cc in absurd (omega arith)
+read-told v s e =
+    let ns = splitOn 32 v in
+    by-test (every isName ns)
+    (λ f. let g : Names (ofByte (union ns)) ≡ Names s = rw f at e in let w : s ≡ ofByte (union ns) = cc in (f, ap (λ (x : Scope). x .bits) w))
+    (λ f. let g : Invalid ≡ Names s = rw f at e in let z : _≡_ {A = ℕ} 0 1 = cc in absurd (omega arith))
 
 union-bound : (ns : List (List ℕ)) → union ns < 256
 unfolding union
@@ -71,22 +70,15 @@ read-order v s k e h = ap (λ (b : ℕ). has b k) (read-told v s e .1) ∙ has-u
 every-among : (p : List ℕ → Bool) (n : List ℕ) (ts : List (List ℕ)) → every p ts ≡ true → isAmong n ts ≡ true → p n ≡ true
 unfolding every isAmong
 every-among p n [] e i = absurd (false≢true i)
-every-among p n (t ∷ ts) e i = by (same t n) refl i (every-among p n ts (and-right (p t) (every p ts) e))
-  where
-    by : (q : Bool) → same t n ≡ q → (q || isAmong n ts) ≡ true → (isAmong n ts ≡ true → p n ≡ true) → p n ≡ true
-    by true s j r = ap p (sym (same-eq t n s)) ∙ and-left (p t) (every p ts) e
-    by false s j r = r j
+every-among p n (t ∷ ts) e i =
+    by-test (same t n) (λ s. ap p (sym (same-eq t n s)) ∙ and-left (p t) (every p ts) e)
+    (λ s. every-among p n ts (and-right (p t) (every p ts) e) (rw s at i))
 
 among-every : (p : List ℕ → Bool) (ts : List (List ℕ)) → ((n : List ℕ) → isAmong n ts ≡ true → p n ≡ true) → every p ts ≡ true
 unfolding every isAmong
 among-every p [] h = refl
 among-every p (t ∷ ts) h =
     rw (h t (rw (same-refl t)), among-every p ts (λ n i. h n (rw i (or-true (same t n)))))
-
-both-ways : (p q : Bool) → (p ≡ true → q ≡ true) → (q ≡ true → p ≡ true) → p ≡ q
-both-ways true q h g = sym (h refl)
-both-ways false true h g = g refl
-both-ways false false h g = refl
 
 module _ (ps qs : List (List ℕ)) (h : (n : List ℕ) → isAmong n ps ≡ isAmong n qs) where
   every-same : (p : List ℕ → Bool) → every p ps ≡ every p qs
@@ -105,42 +97,6 @@ unfolding readScope
 read-members v w h = rw (every-same (splitOn 32 v) (splitOn 32 w) h isName, union-same (splitOn 32 v) (splitOn 32 w) h)
 
 -- ---- what is written
-
--- what holds of the space and of each byte of each name holds of each byte of a text
-module _ (p : ℕ → Bool) where
-  chosen-every : (set k : ℕ) (ns : List (List ℕ)) → every (every p) ns ≡ true → every (every p) (chosen set k ns) ≡ true
-  unfolding chosen every
-  chosen-every set k [] e = refl
-  chosen-every set k (n ∷ ns) e =
-      by (has set k) (and-left (every p n) (every (every p) ns) e) (chosen-every set (suc k) ns (and-right (every p n) (every (every p) ns) e))
-    where
-      by : (q : Bool) → every p n ≡ true → every (every p) (chosen set (suc k) ns) ≡ true
-          → every (every p) (cond q (n ∷ chosen set (suc k) ns) (chosen set (suc k) ns)) ≡ true
-      by true h r = rw (h, r)
-      by false h r = r
-
-  spaced-every : p 32 ≡ true → (ns : List (List ℕ)) → every (every p) ns ≡ true → every p (spaced ns) ≡ true
-  unfolding spaced every
-  spaced-every h [] e = refl
-  spaced-every h (n ∷ []) e = and-left (every p n) true e
-  spaced-every h (n ∷ m ∷ ms) e =
-      let a = and-left (every p n) (every (every p) (m ∷ ms)) e in
-      let b = spaced-every h (m ∷ ms) (and-right (every p n) (every (every p) (m ∷ ms)) e) in
-      every-append p n (32 ∷ spaced (m ∷ ms)) ∙ rw (a, h, b)
-
-  pub text-every : p 32 ≡ true → every (every p) names ≡ true → (set : ℕ) → every p (scopeText set) ≡ true
-  unfolding scopeText
-  text-every h e set = spaced-every h (chosen set 0 names) (chosen-every set 0 names e)
-
-every-bytes : (l : List ℕ) → every (λ b. ltb b 256) l ≡ true → Bytes l
-unfolding every
-every-bytes [] e = nil-bytes
-every-bytes (x ∷ l) e =
-    cons-bytes x l (ltb-true x 256 (and-left (ltb x 256) (every (λ b. ltb b 256) l) e)) (every-bytes l (and-right (ltb x 256) (every (λ b. ltb b 256) l) e))
-
-pub text-bytes : (set : ℕ) → Bytes (scopeText set)
-unfolding names every
-text-bytes set = every-bytes (scopeText set) (text-every (λ b. ltb b 256) refl refl set)
 
 -- a value says the set
 says : ℕ → ScopeValue → Bool

@@ -53,6 +53,3 @@ meet a b = ofByte (bitAnd (a .bits) (b .bits))
 -- every name of the first is in the second
 abbrev pub isWithin : Scope → Scope → Bool
 isWithin a b = eqb (bitAnd (a .bits) (b .bits)) (a .bits)
-
-abbrev pub isEmptySet : Scope → Bool
-isEmptySet a = eqb (a .bits) 0

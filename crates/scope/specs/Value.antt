@@ -5,8 +5,11 @@ use mathlib.Core.Bool.{Bool, false, cond, not, _||_}
 use mathlib.Core.List.{List, [], _∷_, _++_}
 use lib.Bits.{bitOr}
 use lib.Dec.{eqb}
+use lib.ListN.{length}
+use Rattle.octets.specs.Text.{padded}
 use Rattle.octets.specs.Lists.{every, same, splitOn}
-use Rattle.scope.specs.Set.{names, has}
+use Rattle.scope.specs.Set.{names, nameAt, has}
+use Rattle.scope.specs.declared.Name.{Name}
 use Rattle.scope.specs.declared.ScopeValue.{ScopeValue}
 use Rattle.scope.specs.declared.ScopeValue.the-variants.{Names, Invalid}
 
@@ -47,9 +50,13 @@ spaced (n ∷ m ∷ ms) = n ++ 32 ∷ spaced (m ∷ ms)
 unfoldable pub scopeText : ℕ → List ℕ
 scopeText set = spaced (chosen set 0 names)
 
--- a text as it is written: the first of several as it stands, each other behind a space
-abbrev pub behind : Bool → List ℕ → List ℕ
-behind first n = cond first n (32 ∷ n)
+-- the name at place k as it is written: nothing where it is not chosen, the first as it stands, each other behind a space
+unfoldable pub nameText : Bool → Bool → ℕ → List ℕ
+nameText chosen first k = cond chosen (cond first (nameAt k) (32 ∷ nameAt k)) []
+
+-- a name as the code's table has it: its length, and its bytes with spaces behind them, 7 in all
+unfoldable pub rowOf : List ℕ → Name
+rowOf n = record { 0 = length n; 1 = padded 7 n }
 
 -- n is one of the texts: by this the laws say that order and repeats don't matter
 unfoldable pub isAmong : List ℕ → List (List ℕ) → Bool

@@ -2,9 +2,10 @@
 ghost use mathlib.Core.Path.{_≡_};
 ghost use Prim.Native.Nat.{_+_, _<_, _≤_};
 ghost use lib.ListN.{length};
-ghost use lib.Seq.{sets};
-ghost use Rattle.scope.specs.Set.{has, ofByte, join, meet, isWithin, isEmptySet};
-ghost use Rattle.scope.specs.Value.{bitOf, readScope, behind, scopeText};
+ghost use Rattle.octets.specs.Lists.{same};
+ghost use Rattle.octets.specs.Writing.{Appended};
+ghost use Rattle.scope.specs.Set.{nameAt, has, ofByte, join, meet, isWithin};
+ghost use Rattle.scope.specs.Value.{bitOf, readScope, rowOf, nameText, scopeText};
 
 // A set of scope names, one bit for each.
 pub struct Scope {
@@ -57,13 +58,6 @@ impl Scope {
     {
         (self.bits >> k) % 2 == 1
     }
-
-    // Whether no name is in this set.
-    pub fn is_empty(self) -> bool
-        ensures { λ r. ⌜ r ≡ isEmptySet self ⌝ }
-    {
-        self.bits == 0
-    }
 }
 
 // What a text says as a scope value: a set, or nothing, for its form or for a name that is unknown.
@@ -72,29 +66,45 @@ pub enum ScopeValue {
     Invalid,
 }
 
-// The eight names in the order of their bits, 8 bytes to each, and the length of each.
-const NAMES: [u8; 64] = *b"\
-    power\0\0\0\
-    peak\0\0\0\0\
-    tariff\0\0\
-    bill\0\0\0\0\
-    milking\0\
-    drying\0\0\
-    pump\0\0\0\0\
-    solar\0\0\0";
+// A scope name: its length, and its bytes with spaces behind them.
+struct Name(usize, [u8; 7]);
 
-const LENGTHS: [usize; 8] = [5, 4, 6, 4, 7, 6, 4, 5];
+// The eight names in the order of their bits.
+const NAMES: [Name; 8] = [
+    Name(5, *b"power  "),
+    Name(4, *b"peak   "),
+    Name(6, *b"tariff "),
+    Name(4, *b"bill   "),
+    Name(7, *b"milking"),
+    Name(6, *b"drying "),
+    Name(4, *b"pump   "),
+    Name(5, *b"solar  "),
+];
+
+// The name at place k.
+fn name_at(k: usize) -> Name
+    requires { ⌜ k < 8 ⌝ }
+    ensures { λ r. ⌜ r ≡ rowOf (nameAt k) ⌝ }
+{
+    let names = NAMES;
+    names[k]
+}
+
+// Whether a text is the name at place k of the table.
+fn is_name_at(text: &[u8], k: usize) -> bool
+    requires { ⌜ k < 8 ⌝ }
+    ensures { λ r. ⌜ r ≡ same (now (text .entry)) (nameAt k) ⌝ }
+{
+    let Name(count, name) = name_at(k);
+    octets::equal(text, &name[..count])
+}
 
 // The number of a scope name: 0 for a text that is none.
 fn name_bit(name: &[u8]) -> u8
     ensures { λ r. ⌜ r ≡ bitOf (now (name .entry)) ⌝ }
 {
-    let table = NAMES;
-    let lengths = LENGTHS;
     for k in 0..8 {
-        let start = k * 8;
-        let end = start + lengths[k];
-        if octets::equal(name, &table[start..end]) {
+        if is_name_at(name, k) {
             return 1 << k;
         }
     }
@@ -119,38 +129,41 @@ pub fn read(v: &[u8]) -> ScopeValue
     ScopeValue::Names(set)
 }
 
-// Writes a text, with a space in front unless it is the first of several, and says where it ends.
-fn write_next(out: &mut [u8], at: usize, text: &[u8], first: bool) -> usize
-    requires { ⌜ at + length (behind first (now text)) ≤ length (now out) ⌝ }
-    ensures next { λ r. ⌜ r ≡ at + length (behind first (now (text .entry))) ⌝ }
-    ensures bytes { λ _. ⌜ now (out .exit) ≡ sets (now (out .entry)) at (behind first (now (text .entry))) ⌝ }
+// Writes the name at place k from `at` on, and says where it ends.
+fn append_name(out: &mut [u8], at: usize, k: usize) -> usize
+    requires { ⌜ (k < 8) × (at + length (nameAt k) ≤ length (now out)) ⌝ }
+    ensures { λ r. ⌜ Appended (now (out .entry)) at (nameAt k) (now (out .exit)) r ⌝ }
 {
-    if first {
-        octets::copy_at(out, at, text);
-        return at + text.len();
+    let Name(count, name) = name_at(k);
+    octets::append(out, at, &name[..count])
+}
+
+// Writes the name at place k where it is chosen, with a space in front unless it is the first, and says where it ends.
+fn append_next(out: &mut [u8], at: usize, k: usize, chosen: bool, first: bool) -> usize
+    requires { ⌜ (k < 8) × (at + length (nameText chosen first k) ≤ length (now out)) ⌝ }
+    ensures { λ r. ⌜ Appended (now (out .entry)) at (nameText chosen first k) (now (out .exit)) r ⌝ }
+{
+    if !chosen {
+        return at;
     }
-    out[at] = b' ';
-    octets::copy_at(out, at + 1, text);
-    at + 1 + text.len()
+    if first {
+        return append_name(out, at, k);
+    }
+    let next = octets::append(out, at, b" ");
+    append_name(out, next, k)
 }
 
 // Writes the names of a set in the order of the table, and says where the text ends. All eight take 48 bytes.
-pub fn write(out: &mut [u8], at: usize, set: Scope) -> usize
+pub fn append(out: &mut [u8], at: usize, set: Scope) -> usize
     requires { ⌜ at + 48 ≤ length (now out) ⌝ }
-    ensures next { λ r. ⌜ r ≡ at + length (scopeText (set .bits)) ⌝ }
-    ensures bytes { λ _. ⌜ now (out .exit) ≡ sets (now (out .entry)) at (scopeText (set .bits)) ⌝ }
+    ensures { λ r. ⌜ Appended (now (out .entry)) at (scopeText (set .bits)) (now (out .exit)) r ⌝ }
 {
-    let table = NAMES;
-    let lengths = LENGTHS;
     let mut next = at;
     let mut first = true;
     for k in 0..8 {
-        if set.has(k) {
-            let start = k * 8;
-            let end = start + lengths[k];
-            next = write_next(out, next, &table[start..end], first);
-            first = false;
-        }
+        let chosen = set.has(k);
+        next = append_next(out, next, k, chosen, first);
+        first = first & !chosen;
     }
     next
 }

@@ -1,4 +1,2 @@
--- Laws that belong to no one function.
-pub mod Buffers
-pub mod Serving
-pub mod Outcomes
+-- Laws of the reply to what was granted.
+pub mod Replies

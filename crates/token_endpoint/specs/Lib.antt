@@ -1,2 +1,2 @@
--- token_endpoint: what a call that is admitted comes to, as the code holds it.
-pub mod Serving
+-- token_endpoint: the reply to what was granted, as the code holds it.
+pub mod Replies

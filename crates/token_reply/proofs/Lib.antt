@@ -1,3 +1,2 @@
--- Laws that belong to no one function.
-pub mod Writing
-pub mod Challenges
+-- Laws of a reply's parts.
+pub mod Parts

@@ -1,3 +1,2 @@
--- Laws that belong to no one function.
-pub mod Bodies
+-- Laws of a token request.
 pub mod Readings

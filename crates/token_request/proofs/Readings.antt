@@ -1,118 +1,109 @@
--- Laws of a reading: which part of protocol's `readToken` each way through the code comes to.
+-- Laws of a token request: protocol's `readToken` in the steps in which the code takes it.
 --
--- In order: a call, by its body and its client; the request of a client, by its grant; that a request is its reading.
+-- In order: the known names; a call, by who it comes from; a client's refresh and exchange; its request, by its grant.
+--
+-- Not here: who a call comes from (`client_forms`).
 -- Assumes nothing.
-use mathlib.Core.Path.{_≡_, refl}
-use mathlib.Core.Bool.{Bool, true, false, cond}
+use mathlib.Core.Path.{_≡_, refl, sym, ap}
+use mathlib.Core.Bool.{Bool, true, false}
 use mathlib.Core.List.{List}
-use Prim.Native.Nat.{ℕ, _<_}
-use native.Mathlib.Omega.{arith}
+use Prim.Native.Nat.{ℕ}
+use lib.Dec.{lit<}
+use lib.ListN.{getD}
 use Rattle.octets.specs.Text.{bytes}
+use Rattle.octets.specs.Lists.{every, same, grow, splitOn}
 use Rattle.encoding.specs.Hex.{readHandle}
 use Rattle.encoding.specs.declared.HandleText.{HandleText}
-use Rattle.form.specs.Content.{formValue}
-use Rattle.client_registry.specs.Registry.{Client, fitRegistry}
-use Rattle.client_registry.specs.Lookup.{clientAt, IsEntry}
+use Rattle.form.specs.Content.{pieces, Value, isMissing, onlyValue, isOnce}
+use Rattle.form.specs.Places.{unseen, viewOf, Stands, distinct}
+use Rattle.form.specs.declared.Place.{Place}
+use Rattle.client_registry.specs.Registry.{Client as RegisteredClient, clientsOf}
+use Rattle.client_registry.specs.Lookup.{clientAt}
 use Rattle.client_registry.specs.declared.Entry.{Entry}
-use Rattle.client_registry.proofs.Clients.{fit-count}
-use Rattle.protocol.specs.declared.ErrorWord.the-variants.{InvalidRequest, InvalidClient, UnsupportedGrantType}
+use Rattle.protocol.specs.declared.ErrorWord.{ErrorWord}
+use Rattle.protocol.specs.declared.ErrorWord.the-variants.{InvalidRequest, UnsupportedGrantType}
 use Rattle.protocol.specs.declared.Refusal.the-variants.{Token}
+use Rattle.protocol.specs.declared.Request.the-variants.{Exchange, Refresh}
 use Rattle.protocol.specs.declared.ScopeAsked.{ScopeAsked}
-use Rattle.protocol.specs.Requests.{isMissing, valueOf, isOnce, scopeAsked, Request, exchange, refresh, refused, asks}
-use Rattle.protocol.specs.Token.{callClient, isInvalidClient, isInvalidBody, readToken}
-use Rattle.token_request.specs.declared.Asks.the-variants.{Exchange, Refresh}
-use Rattle.token_request.specs.Reading.{requestOf, readingBy, readingOf, exchangeReading, refreshReading, grantReading}
+use Rattle.protocol.specs.Refusals.{firstOf}
+use Rattle.protocol.specs.Requests.{scopeAsked, refusedReading, unlessRefused}
+use Rattle.protocol.specs.ClientForms.{formReasons}
+use Rattle.protocol.specs.Token.{tokenNames, readExchange, readRefresh, readGrant, readToken}
+use Rattle.client_forms.specs.declared.Caller.the-variants.{Client, Refused}
+use Rattle.client_forms.specs.declared.ClientForm.{ClientForm}
+use Rattle.client_forms.specs.Forms.{ClientNames, decisionOn, LetIn, Reads}
 
--- ---- the call
+-- ---- the known names
 
-module _ (clients : List Client) (header body : List ℕ) where
-  pub read-invalid : isInvalidBody header body ≡ true → refused (Token InvalidRequest) ≡ readToken clients header body
-  unfolding readToken
-  read-invalid e = rw e
+-- as the code lists them
+abbrev pub namesText : List ℕ
+namesText = bytes "client_id&client_secret&grant_type&code&redirect_uri&refresh_token&scope"
 
-  module _ (sound : isInvalidBody header body ≡ false) where
-    pub read-stranger : isInvalidClient clients header body ≡ true → refused (Token InvalidClient) ≡ readToken clients header body
-    unfolding readToken
-    read-stranger e = rw (sound, e)
+names-parted : pieces namesText ≡ tokenNames
+unfolding splitOn grow
+names-parted = refl
 
-    pub read-client : isInvalidClient clients header body ≡ false → (number : ℕ) → number ≡ callClient clients header body
-        → grantReading clients number body ≡ readToken clients header body
-    unfolding readToken grantReading exchangeReading refreshReading
-    read-client e number n = rw (sound, e, n)
+pub client-names : ClientNames (pieces namesText)
+unfolding distinct every same
+client-names = rw names-parted (record { apart = refl; few = refl; enough = refl; id = refl; secret = refl })
 
--- ---- the grant
+-- ---- a call
 
-module _ (clients : List Client) (number : ℕ) (body : List ℕ) where
-  pub read-code : isOnce (bytes "authorization_code") (formValue body (bytes "grant_type")) ≡ true
-      → exchangeReading clients number body ≡ grantReading clients number body
-  unfolding grantReading
-  read-code e = rw e
+module _ {registry header body : List ℕ} {form : ClientForm} (reads : Reads (pieces namesText) registry header body form) where
+  decided : firstOf (formReasons tokenNames (bytes "grant_type") (clientsOf registry) header body) ≡ decisionOn (form .caller)
+  decided = sym (rw names-parted at (reads .decision))
 
-  module _ (other : isOnce (bytes "authorization_code") (formValue body (bytes "grant_type")) ≡ false) where
-    pub read-token : isOnce (bytes "refresh_token") (formValue body (bytes "grant_type")) ≡ true
-        → refreshReading number body ≡ grantReading clients number body
-    unfolding grantReading
-    read-token e = rw (other, e)
+  pub read-refused : {word : ErrorWord} → form .caller ≡ Refused word → refusedReading (Token word) ≡ readToken (clientsOf registry) header body
+  unfolding readToken unlessRefused
+  read-refused e = rw (decided, e)
 
-    pub read-neither : isOnce (bytes "refresh_token") (formValue body (bytes "grant_type")) ≡ false
-        → refused (Token UnsupportedGrantType) ≡ grantReading clients number body
-    unfolding grantReading
-    read-neither e = rw (other, e)
+  module _ {e : Entry} (found : form .caller ≡ Client e) where
+    pub let-in : LetIn tokenNames registry body (form .places) e
+    let-in = rw names-parted at (reads .known e found)
 
-  pub code-missing : isMissing (formValue body (bytes "code")) ≡ true → refused (Token InvalidRequest) ≡ exchangeReading clients number body
-  unfolding exchangeReading
-  code-missing e = rw e
+    pub read-client : readGrant (clientsOf registry) (e .number) body ≡ readToken (clientsOf registry) header body
+    unfolding readToken unlessRefused
+    read-client = rw (decided, found, ← ap (λ (x : Entry). x .number) (reads .client e found))
 
-  pub code-there : isMissing (formValue body (bytes "code")) ≡ false → (presented : HandleText) → presented ≡ readHandle (valueOf (formValue body (bytes "code")))
-      → (again : Bool) → again ≡ isOnce (clientAt clients number .redirect) (formValue body (bytes "redirect_uri"))
-      → record { asks = Exchange again; client = number; presented = presented } ≡ requestOf (exchangeReading clients number body)
-  unfolding exchangeReading requestOf
-  code-there e presented p again a = rw (e, p, a)
+-- ---- the request of a client
 
-pub token-missing : (number : ℕ) (body : List ℕ) → isMissing (formValue body (bytes "refresh_token")) ≡ true
-    → refused (Token InvalidRequest) ≡ refreshReading number body
-unfolding refreshReading
-token-missing number body e = rw e
+module _ {body : List ℕ} {places : List Place} (s : Stands tokenNames body places) (number : ℕ) where
+  -- what the form says of name k
+  abbrev said : ℕ → Value
+  said k = viewOf body (getD places k unseen)
 
-pub token-there : (number : ℕ) (body : List ℕ) → isMissing (formValue body (bytes "refresh_token")) ≡ false
-    → (presented : HandleText) → presented ≡ readHandle (valueOf (formValue body (bytes "refresh_token")))
-    → (asked : ScopeAsked) → asked ≡ scopeAsked (formValue body (bytes "scope"))
-    → record { asks = Refresh asked; client = number; presented = presented } ≡ requestOf (refreshReading number body)
-unfolding refreshReading requestOf
-token-there number body e presented p asked a = rw (e, p, a)
+  pub token-missing : isMissing (said 5) ≡ true → refusedReading (Token InvalidRequest) ≡ readRefresh number body
+  unfolding readRefresh unlessRefused firstOf
+  token-missing e = rw (rw (s .at 5 (lit< tt) .value) at e)
 
--- a client's number is a byte
-pub number-byte : (registry : List ℕ) (e : Entry) → fitRegistry registry ≡ true → IsEntry registry e → e .number < 256
-number-byte registry e fit entry = omega (arith, fit-count registry fit .most, entry .known)
+  pub token-there : isMissing (said 5) ≡ false → (p : HandleText) → p ≡ readHandle (onlyValue (said 5)) → (scope : ScopeAsked)
+      → scope ≡ scopeAsked (said 6)
+      → record { request = Refresh (record { client = number; scope = scope }); presented = p } ≡ readRefresh number body
+  unfolding readRefresh unlessRefused firstOf
+  token-there e p ep scope es = rw (ep, es, s .at 6 (lit< tt) .value, s .at 5 (lit< tt) .value, rw (s .at 5 (lit< tt) .value) at e)
 
--- ---- a request is its reading
+  module _ (clients : List RegisteredClient) where
+    pub code-missing : isMissing (said 3) ≡ true → refusedReading (Token InvalidRequest) ≡ readExchange clients number body
+    unfolding readExchange unlessRefused firstOf
+    code-missing e = rw (rw (s .at 3 (lit< tt) .value) at e)
 
-pub request-reading : (clients : List Client) (header body : List ℕ) → readingOf (requestOf (readToken clients header body)) ≡ readToken clients header body
-unfolding readToken requestOf readingBy
-request-reading clients header body =
-    let number = callClient clients header body in
-    let grant = formValue body (bytes "grant_type") in
-    let code = formValue body (bytes "code") in
-    let token = formValue body (bytes "refresh_token") in
-    by (isInvalidBody header body) (isInvalidClient clients header body) (isOnce (bytes "authorization_code") grant) (isMissing code)
-    (isOnce (bytes "refresh_token") grant)
-    (isMissing token)
-    (exchange number (readHandle (valueOf code)) (isOnce (clientAt clients number .redirect) (formValue body (bytes "redirect_uri"))))
-    refl
-    (refresh number (readHandle (valueOf token)) (scopeAsked (formValue body (bytes "scope"))))
-    refl
-  where
-    by : (invalid stranger coded codeless refreshed tokenless : Bool)
-        (e : Request) → readingOf (requestOf (asks e)) ≡ asks e → (r : Request) → readingOf (requestOf (asks r)) ≡ asks r
-        → let reading = cond invalid (refused (Token InvalidRequest))
-        (cond stranger (refused (Token InvalidClient))
-        (cond coded (cond codeless (refused (Token InvalidRequest)) (asks e))
-        (cond refreshed (cond tokenless (refused (Token InvalidRequest)) (asks r)) (refused (Token UnsupportedGrantType))))) in
-        readingOf (requestOf reading) ≡ reading
-    by true stranger coded codeless refreshed tokenless e p r q = refl
-    by false true coded codeless refreshed tokenless e p r q = refl
-    by false false true true refreshed tokenless e p r q = refl
-    by false false true false refreshed tokenless e p r q = p
-    by false false false codeless true true e p r q = refl
-    by false false false codeless true false e p r q = q
-    by false false false codeless false tokenless e p r q = refl
+    pub code-there : isMissing (said 3) ≡ false → (p : HandleText) → p ≡ readHandle (onlyValue (said 3)) → (again : Bool)
+        → again ≡ isOnce (clientAt clients number .redirect) (said 4)
+        → record { request = Exchange (record { client = number; again = again }); presented = p } ≡ readExchange clients number body
+    unfolding readExchange unlessRefused firstOf
+    code-there e p ep again ea = rw (ep, ea, s .at 4 (lit< tt) .value, s .at 3 (lit< tt) .value, rw (s .at 3 (lit< tt) .value) at e)
+
+    -- ---- the grants
+
+    pub grant-code : isOnce (bytes "authorization_code") (said 2) ≡ true → readExchange clients number body ≡ readGrant clients number body
+    unfolding readGrant
+    grant-code e = rw (rw (s .at 2 (lit< tt) .value) at e)
+
+    module _ (other : isOnce (bytes "authorization_code") (said 2) ≡ false) where
+      pub grant-token : isOnce (bytes "refresh_token") (said 2) ≡ true → readRefresh number body ≡ readGrant clients number body
+      unfolding readGrant
+      grant-token e = rw (rw (s .at 2 (lit< tt) .value) at other, rw (s .at 2 (lit< tt) .value) at e)
+
+      pub grant-other : isOnce (bytes "refresh_token") (said 2) ≡ false → refusedReading (Token UnsupportedGrantType) ≡ readGrant clients number body
+      unfolding readGrant
+      grant-other e = rw (rw (s .at 2 (lit< tt) .value) at other, rw (s .at 2 (lit< tt) .value) at e)

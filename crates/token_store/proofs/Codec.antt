@@ -1,34 +1,28 @@
 -- Laws of a store's bytes (specs/Store.antt): what is read from them, what a write does, and that nothing is lost.
 --
 -- In order: the slots and the time that are read, and where their fields lie; a store of a whole slot or of the time, as a
--- change of what is read; writing what was read, and equal slots have equal bytes; reading what was written; the fresh store;
--- the slot that a search found.
+-- change of what is read; writing what was read; reading what was written; the fresh
+-- store.
 --
--- Not here: one slot's bytes (`Slots`), fitness (`Fits`).
+-- Not here: one slot's bytes (`Slots`), scans of the slots (`Scans`), fitness (`Fits`).
 -- Assumes nothing.
 use mathlib.Core.Path.{_≡_, refl, sym, ap, _∙_, subst}
-use mathlib.Core.Bool.{Bool}
 use mathlib.Core.Logic.{_≢_}
 use mathlib.Core.List.{List, _++_, map}
-use Prim.Native.Nat.{ℕ, _+_, _*_, _^_, _≤_, _<_}
-use native.Mathlib.Nat.{add-zero}
+use Prim.Native.Nat.{ℕ, _+_, _*_, _^_, _<_}
 use native.Mathlib.Decide.{decLt}
 use native.Mathlib.Omega.{arith}
-use lib.ListN.{length, take, drop, getD, replicate, length-append, length-drop, length-map, length-replicate, getD-replicate, take-append-drop, List·getD-map, List·getD-eq-default}
+use lib.ListN.{length, take, drop, getD, replicate, length-append, length-drop, length-map, length-replicate, getD-replicate, take-append-drop, List·getD-map}
 use lib.Seq.{take-all, take-at, drop-append-add, length-take-le, sets}
 use Rattle.octets.specs.Lists.{part, Bytes}
 use Rattle.octets.specs.BigEndian.{bigEndian, bigEndianFrom, bigEndianBytes}
-use Rattle.octets.proofs.Lists.{take-bytes, drop-bytes, length-part, part-at, part-part}
+use Rattle.octets.proofs.Lists.{take-bytes, drop-bytes, length-part}
 use Rattle.octets.proofs.Stores.{part-sets-after, part-sets-before, part-sets-same}
 use Rattle.octets.proofs.BigEndian.{be-bytes, bytes-be, length-be-bytes}
-use Rattle.token_store.specs.Layout.{timeSize, slotCount, handleSize, farmSize, expirySize, slotSize, storeSize, slotStart, atHandle, atClient, atFarm, atScope, atExpiry}
-use Rattle.token_store.specs.Search.{indexFrom}
-use Rattle.token_store.specs.Store.{Store, SlotFits, SlotsFit, concat, tabulate, encodeSlot, decodeSlot, slotBytes, decode, encode, freeSlot, fresh, slotOf, withSlot, withTime}
-use Rattle.token_store.specs.declared.Slot.{Slot}
-use Rattle.token_store.specs.declared.Found.the-variants.{At}
-use Rattle.token_store.proofs.Searches.{index-found}
+use Rattle.token_store.specs.Layout.{timeSize, slotCount, slotSize, storeSize, slotStart}
+use Rattle.token_store.specs.Store.{Store, SlotsFit, concat, encodeSlot, decodeSlot, slotBytes, decode, encode, freeSlot, fresh, slotOf, withSlot, withTime}
 use Rattle.token_store.proofs.Tables.{length-tabulate, getD-tabulate, tabulate-cong, tabulate-list, tabulate-set, map-tabulate, concat-parts, part-concat, length-concat, part-replicate}
-use Rattle.token_store.proofs.Slots.{slot-back, slot-forth, length-slot, read-fits, kind-in, handle-in, client-in, farm-in, scope-in, expiry-in, free-read, free-fits}
+use Rattle.token_store.proofs.Slots.{slot-back, slot-forth, length-slot, slotIn, slot-in, free-read}
 
 -- ---- what is read
 
@@ -48,34 +42,9 @@ module _ (b : List ℕ) (i : ℕ) (size : length b ≡ storeSize) (below : i < s
   pub length-slot-bytes : length (slotBytes b i) ≡ slotSize
   length-slot-bytes = length-part b (slotStart i) slotSize (omega arith)
 
-  -- a byte, and a part, of slot i
-  byte-at : (k : ℕ) → k < slotSize → getD (slotBytes b i) k 0 ≡ getD b (slotStart i + k) 0
-  byte-at k h = part-at b (slotStart i) slotSize (omega arith) k h
-
-  field-at : (k n : ℕ) → k + n ≤ slotSize → part (slotBytes b i) k n ≡ part b (slotStart i + k) n
-  field-at k n h = part-part b (slotStart i) slotSize k n h
-
-  pub kind-at : slotOf (decode b) i .kind ≡ getD b (slotStart i) 0
-  kind-at = ap (λ (s : Slot). s .kind) (slot-at b i below) ∙ kind-in (slotBytes b i) length-slot-bytes ∙ rw add-zero at (byte-at 0 (omega arith))
-
-  pub handle-at : slotOf (decode b) i .handle ≡ part b (slotStart i + atHandle) handleSize
-  handle-at = ap (λ (s : Slot). s .handle) (slot-at b i below) ∙ handle-in (slotBytes b i) length-slot-bytes ∙ field-at atHandle handleSize (omega arith)
-
-  pub client-at : slotOf (decode b) i .client ≡ getD b (slotStart i + atClient) 0
-  client-at = ap (λ (s : Slot). s .client) (slot-at b i below) ∙ client-in (slotBytes b i) length-slot-bytes ∙ byte-at atClient (omega arith)
-
-  pub farm-at : slotOf (decode b) i .farm ≡ bigEndian (part b (slotStart i + atFarm) farmSize)
-  farm-at =
-      ap (λ (s : Slot). s .farm) (slot-at b i below) ∙ farm-in (slotBytes b i) length-slot-bytes
-      ∙ ap bigEndian (field-at atFarm farmSize (omega arith))
-
-  pub scope-at : slotOf (decode b) i .scope ≡ getD b (slotStart i + atScope) 0
-  scope-at = ap (λ (s : Slot). s .scope) (slot-at b i below) ∙ scope-in (slotBytes b i) length-slot-bytes ∙ byte-at atScope (omega arith)
-
-  pub expiry-at : slotOf (decode b) i .expiry ≡ bigEndian (part b (slotStart i + atExpiry) expirySize)
-  expiry-at =
-      ap (λ (s : Slot). s .expiry) (slot-at b i below) ∙ expiry-in (slotBytes b i) length-slot-bytes
-      ∙ ap bigEndian (field-at atExpiry expirySize (omega arith))
+  -- its fields lie where the layout says
+  pub slot-read : slotOf (decode b) i ≡ slotIn b (slotStart i)
+  slot-read = slot-at b i below ∙ slot-in b (slotStart i) (omega arith)
 
 -- ---- a store of a whole slot changes that slot of what is read, and nothing else
 
@@ -125,10 +94,6 @@ module _ (b : List ℕ) (size : length b ≡ storeSize) (bytes : Bytes b) where
   slot-bytes : (i : ℕ) → Bytes (slotBytes b i)
   slot-bytes i = take-bytes slotSize (drop (slotStart i) b) (drop-bytes (slotStart i) b bytes)
 
-  -- the bytes of slot i are those of what is read from them
-  pub encode-slot : (i : ℕ) → i < slotCount → encodeSlot (slotOf (decode b) i) ≡ slotBytes b i
-  encode-slot i below = ap encodeSlot (slot-at b i below) ∙ slot-forth (slotBytes b i) (length-slot-bytes b i size below) (slot-bytes i)
-
   encode-slots : concat (map encodeSlot (decode b .slots)) ≡ drop timeSize b
   unfolding decode
   encode-slots =
@@ -147,19 +112,6 @@ module _ (b : List ℕ) (size : length b ≡ storeSize) (bytes : Bytes b) where
       bytes-be timeSize (take timeSize b) (length-take-le timeSize b (omega arith)) (take-bytes timeSize b bytes)
       in
       rw (t, encode-slots) (take-append-drop timeSize b)
-
-  -- what is read fits
-  pub decode-fits : SlotsFit (decode b .slots)
-  decode-fits i = by (decLt i slotCount)
-    where
-      by : Dec (i < slotCount) → SlotFits (slotOf (decode b) i)
-      by (yes l) = subst SlotFits (sym (slot-at b i l)) (read-fits (slotBytes b i) (length-slot-bytes b i size l) (slot-bytes i))
-      by (no n) = subst SlotFits (sym (List·getD-eq-default (decode b .slots) freeSlot (omega (arith, length-slots b)))) free-fits
-
--- stores with equal slots have equal bytes behind the time: "every slot keeps its bytes"
-pub slots-keep : (b c : List ℕ) → length b ≡ storeSize → Bytes b → length c ≡ storeSize → Bytes c
-    → decode c .slots ≡ decode b .slots → drop timeSize c ≡ drop timeSize b
-slots-keep b c n h m k e = sym (encode-slots c m k) ∙ ap (λ (l : List Slot). concat (map encodeSlot l)) e ∙ encode-slots b n h
 
 -- ---- reading what was written
 
@@ -215,33 +167,18 @@ module _ (g : Store) (sized : length (g .slots) ≡ slotCount) (early : g .time 
         j;
   }
 
--- ---- the fresh store
+-- ---- the fresh store: its bytes are all zero
 
-zeros-time : bigEndian (replicate timeSize 0) ≡ 0
-unfolding bigEndianFrom
-zeros-time = refl
-
-module _ (n : ℕ) (size : n ≡ storeSize) where
-  -- any zero bytes of the right length are the fresh store's
-  zeros-slot : (i : ℕ) → i < slotCount → decodeSlot (slotBytes (replicate n 0) i) ≡ freeSlot
-  zeros-slot i below = ap decodeSlot (part-replicate 0 n (slotStart i) slotSize (omega arith)) ∙ free-read
-
-  zeros-slots : (k : ℕ) → k ≤ slotCount → tabulate k (λ i. decodeSlot (slotBytes (replicate n 0) i)) ≡ replicate k freeSlot
-  zeros-slots k h =
-      tabulate-list (λ i. decodeSlot (slotBytes (replicate n 0) i)) freeSlot k (replicate k freeSlot) (length-replicate k freeSlot)
-      (λ i l. zeros-slot i (omega arith) ∙ sym (getD-replicate k i freeSlot freeSlot l))
-
-  pub decode-zeros : decode (replicate n 0) ≡ fresh
-  unfolding decode fresh
-  decode-zeros = λ j. record {
-    time = (ap bigEndian (part-replicate 0 n 0 timeSize (omega arith)) ∙ zeros-time) j;
-    slots = zeros-slots slotCount (omega arith) j;
-  }
+fresh-slot : (i : ℕ) → i < slotCount → decodeSlot (slotBytes (replicate storeSize 0) i) ≡ freeSlot
+fresh-slot i below = ap decodeSlot (part-replicate 0 storeSize (slotStart i) slotSize (omega arith)) ∙ free-read
 
 pub decode-fresh : decode (replicate storeSize 0) ≡ fresh
-decode-fresh = decode-zeros storeSize refl
-
--- ---- the slot that a search found is one of the store's
-
-pub found-below : (p : Slot → Bool) (b : List ℕ) (i : ℕ) → indexFrom p 0 (decode b .slots) ≡ At i → i < slotCount
-found-below p b i e = omega (arith, index-found p freeSlot (decode b .slots) i e .below, length-slots b)
+unfolding decode fresh bigEndianFrom
+decode-fresh = λ j. record {
+  time = bigEndian (part-replicate 0 storeSize 0 timeSize (omega arith) j);
+  slots =
+      tabulate-list (λ i. decodeSlot (slotBytes (replicate storeSize 0) i)) freeSlot slotCount (replicate slotCount freeSlot)
+      (length-replicate slotCount freeSlot)
+      (λ i l. fresh-slot i l ∙ sym (getD-replicate slotCount i freeSlot freeSlot l))
+      j;
+}

@@ -1,28 +1,30 @@
 -- Laws of one slot (specs/Store.antt): its bytes, its fields and its tests.
 --
--- In order: reading what was written; where each field lies in a slot's bytes; writing what was read, whose fields fit;
--- the stores that write a slot; the free slot; a slot that is sought is in use.
+-- In order: reading what was written; where each field lies in a slot's bytes; writing what was read; the stores that
+-- write a slot; the free slot; a slot that is sought is in use; lifetimes.
 --
 -- Not here: the slots of a store (`Codec`), fitness (`Fits`).
 -- Assumes nothing.
 use mathlib.Core.Path.{_≡_, refl, sym, ap, _∙_, subst}
 use mathlib.Core.Bool.{Bool, true, false, not, _||_}
 use mathlib.Core.List.{List, [], _∷_, _++_, map, append-assoc, append-nil}
-use Prim.Native.Nat.{ℕ, suc, _+_, _^_, _≤_, _<_}
+use Prim.Native.Nat.{ℕ, suc, _+_, _≤_, _<_}
+use native.Mathlib.Nat.{add-zero}
 use native.Mathlib.Omega.{arith}
-use lib.Dec.{lit<, eqb}
+use lib.Dec.{lit<, eqb, leb}
 use lib.ListN.{length, drop, getD, set, replicate, length-append, drop-of-length-le}
-use lib.Seq.{drop-cons, sets}
-use borrow.Author.Tests.{eqb-true, ne-eqb}
-use Rattle.octets.specs.Lists.{part, Bytes, same}
+use lib.Seq.{drop-cons, take-all, sets}
+use borrow.Author.Tests.{eqb-true, ne-eqb, leb-true}
+use Rattle.octets.specs.Lists.{part, Bytes, every, same}
 use Rattle.octets.specs.BigEndian.{bigEndian, bigEndianFrom, bigEndianBytes}
 use Rattle.octets.proofs.Booleans.{and-left, and-right}
-use Rattle.octets.proofs.Lists.{take-bytes, drop-bytes, length-part}
+use Rattle.octets.proofs.Lists.{take-bytes, drop-bytes, length-part, part-part}
+use Rattle.octets.proofs.Searches.{every-each}
 use Rattle.octets.proofs.Stores.{sets-append}
-use Rattle.octets.proofs.BigEndian.{be-one, be-bytes, bytes-be, be-bytes-one, be-bound, length-be-bytes}
+use Rattle.octets.proofs.BigEndian.{be-one, be-bytes, bytes-be, be-bytes-one, length-be-bytes}
 use Rattle.encoding.specs.declared.HandleText.{HandleText}
-use Rattle.token_store.specs.Layout.{handleSize, farmSize, expirySize, fieldSizes, slotSize, atHandle, atClient, atFarm, atScope, atExpiry}
-use Rattle.token_store.specs.Store.{SlotFits, cut, concat, fieldsOf, ofFields, encodeSlot, decodeSlot, freeSlot, kindCode, kindBoundCode, isUsed, isLive, isVacant, holds, isSought, soughtKey, shows}
+use Rattle.token_store.specs.Layout.{latestTime, handleSize, farmSize, expirySize, fieldSizes, slotSize, atHandle, atClient, atFarm, atScope, atExpiry}
+use Rattle.token_store.specs.Store.{SlotFits, cut, concat, fieldsOf, ofFields, encodeSlot, decodeSlot, freeSlot, kindCode, kindBoundCode, isUsed, lifetimes, lifetimeOf, isLive, isVacant, holds, isSought, soughtKey, shows}
 use Rattle.token_store.specs.declared.Slot.{Slot}
 use Rattle.token_store.specs.declared.Sought.{Sought}
 use Rattle.token_store.specs.declared.Sought.the-variants.{Code, Access, Refresh}
@@ -74,24 +76,38 @@ slot-fields l = ap ofFields (cut-fields l)
 byte-in : (l : List ℕ) (k : ℕ) → k < length l → bigEndian (part l k 1) ≡ getD l k 0
 byte-in l k h = rw (drop-cons l k 0 h) (be-one (getD l k 0))
 
-module _ (l : List ℕ) (size : length l ≡ slotSize) where
-  pub kind-in : decodeSlot l .kind ≡ getD l 0 0
-  kind-in = ap (λ (s : Slot). s .kind) (slot-fields l) ∙ byte-in l 0 (omega arith)
+-- the slot whose bytes start at `at`
+abbrev pub slotIn : List ℕ → ℕ → Slot
+slotIn b at = record {
+  kind = getD b at 0;
+  handle = part b (at + atHandle) handleSize;
+  client = getD b (at + atClient) 0;
+  farm = bigEndian (part b (at + atFarm) farmSize);
+  scope = getD b (at + atScope) 0;
+  expiry = bigEndian (part b (at + atExpiry) expirySize);
+}
 
-  pub handle-in : decodeSlot l .handle ≡ part l atHandle handleSize
-  handle-in = ap (λ (s : Slot). s .handle) (slot-fields l)
+pub slot-in : (b : List ℕ) (at : ℕ) → at + slotSize ≤ length b → decodeSlot (part b at slotSize) ≡ slotIn b at
+slot-in b at fits =
+    slot-fields (part b at slotSize)
+    ∙ λ j. record {
+      kind = (rw add-zero at (byte 0 (omega arith))) j;
+      handle = field atHandle handleSize (omega arith) j;
+      client = byte atClient (omega arith) j;
+      farm = bigEndian (field atFarm farmSize (omega arith) j);
+      scope = byte atScope (omega arith) j;
+      expiry = bigEndian (field atExpiry expirySize (omega arith) j);
+    }
+  where
+    field : (k n : ℕ) → k + n ≤ slotSize → part (part b at slotSize) k n ≡ part b (at + k) n
+    field k n h = part-part b at slotSize k n h
 
-  pub client-in : decodeSlot l .client ≡ getD l atClient 0
-  client-in = ap (λ (s : Slot). s .client) (slot-fields l) ∙ byte-in l atClient (omega arith)
+    byte : (k : ℕ) → k + 1 ≤ slotSize → bigEndian (part (part b at slotSize) k 1) ≡ getD b (at + k) 0
+    byte k h = ap bigEndian (field k 1 h) ∙ byte-in b (at + k) (omega arith)
 
-  pub farm-in : decodeSlot l .farm ≡ bigEndian (part l atFarm farmSize)
-  farm-in = ap (λ (s : Slot). s .farm) (slot-fields l)
-
-  pub scope-in : decodeSlot l .scope ≡ getD l atScope 0
-  scope-in = ap (λ (s : Slot). s .scope) (slot-fields l) ∙ byte-in l atScope (omega arith)
-
-  pub expiry-in : decodeSlot l .expiry ≡ bigEndian (part l atExpiry expirySize)
-  expiry-in = ap (λ (s : Slot). s .expiry) (slot-fields l)
+-- in the bytes of a slot alone
+pub slot-alone : (l : List ℕ) → length l ≡ slotSize → decodeSlot l ≡ slotIn l 0
+slot-alone l size = ap decodeSlot (sym (take-all slotSize l (omega arith))) ∙ slot-in l 0 (omega arith)
 
 -- ---- writing what was read
 
@@ -104,9 +120,6 @@ module _ (l : List ℕ) (size : length l ≡ slotSize) (bytes : Bytes l) where
 
   field-forth : (k n : ℕ) → k + n ≤ slotSize → bigEndianBytes n (bigEndian (part l k n)) ≡ part l k n
   field-forth k n h = bytes-be n (part l k n) (field-length k n h) (field-bytes k n)
-
-  field-fits : (k n : ℕ) → k + n ≤ slotSize → bigEndian (part l k n) < 256 ^ n
-  field-fits k n h = rw (field-length k n h) at (be-bound (part l k n) (field-bytes k n))
 
   pub slot-forth : encodeSlot (decodeSlot l) ≡ l
   unfolding encodeSlot
@@ -122,17 +135,6 @@ module _ (l : List ℕ) (size : length l ≡ slotSize) (bytes : Bytes l) where
       in
       ap (λ (s : Slot). concat (fieldsOf s)) (slot-fields l) ∙ ap concat (e ∙ sym (cut-fields l))
       ∙ concat-cut fieldSizes l (drop-of-length-le l {i = slotSize} (omega arith))
-
-  -- what is read fits
-  pub read-fits : SlotFits (decodeSlot l)
-  read-fits = subst SlotFits (sym (slot-fields l)) (record {
-    kind = field-fits 0 1 (omega arith);
-    handle = field-length atHandle handleSize (omega arith);
-    client = field-fits atClient 1 (omega arith);
-    farm = field-fits atFarm farmSize (omega arith);
-    scope = field-fits atScope 1 (omega arith);
-    expiry = field-fits atExpiry expirySize (omega arith);
-  })
 
 -- ---- the stores that write a slot are one store of the whole slot
 
@@ -196,12 +198,6 @@ pub free-vacant : (t : ℕ) → isVacant t freeSlot ≡ true
 unfolding freeSlot
 free-vacant t = refl
 
-pub free-unsought : (q : Sought) → isSought q freeSlot ≡ false
-unfolding freeSlot
-free-unsought Code = refl
-free-unsought Access = refl
-free-unsought Refresh = refl
-
 -- ---- a slot that is sought is in use
 
 used : (k n : ℕ) → eqb k (suc n) ≡ true → not (eqb k 0) ≡ true
@@ -221,3 +217,10 @@ pub key-holds : (q : Sought) (p : HandleText) (s : Slot) → soughtKey q p s ≡
 key-holds q p s e =
     let shown = and-right (isSought q s) (shows p s) e in
     rw (sought-used q s (and-left (isSought q s) (shows p s) e)) (and-right (p .valid) (same (p .bytes) (s .handle)) shown)
+
+-- ---- lifetimes
+
+-- each is so short that it and the latest time fit an expiry
+pub lifetime-bound : (kind : ℕ) → lifetimeOf kind ≤ latestTime
+unfolding every
+lifetime-bound kind = leb-true (lifetimeOf kind) latestTime (every-each (λ n. leb n latestTime) 0 lifetimes refl refl kind)

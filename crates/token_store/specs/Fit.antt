@@ -6,7 +6,7 @@ use lib.Dec.{eqb, leb, ltb}
 use lib.ListN.{length}
 use Rattle.octets.specs.Lists.{every, isZero}
 use Rattle.token_store.specs.Layout.{storeSize, latestTime}
-use Rattle.token_store.specs.Store.{kindRefresh, isUsed, encodeSlot, decode}
+use Rattle.token_store.specs.Store.{kindLast, isUsed, encodeSlot, decode}
 use Rattle.token_store.specs.declared.Slot.{Slot}
 
 -- "Kind 0 is free, body all zero"; "A slot in use has a client number in the register and a scope set that is not
@@ -14,7 +14,7 @@ use Rattle.token_store.specs.declared.Slot.{Slot}
 unfoldable pub fitSlot : ℕ → Slot → Bool
 fitSlot clients s =
     cond (isUsed s)
-    (leb (s .kind) kindRefresh && ltb (s .client) clients && not (eqb (s .scope) 0))
+    (leb (s .kind) kindLast && ltb (s .client) clients && not (eqb (s .scope) 0))
     (every isZero (encodeSlot s))
 
 -- "the mark, 8 bytes, big-endian, at most 2^40"

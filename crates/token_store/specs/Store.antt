@@ -10,7 +10,12 @@ use Rattle.octets.specs.Lists.{part, same}
 use Rattle.octets.specs.BigEndian.{bigEndian, bigEndianBytes}
 use Rattle.encoding.specs.declared.HandleText.{HandleText}
 use Rattle.token_store.specs.Layout.{timeSize, slotCount, handleSize, farmSize, expirySize, fieldSizes, slotSize, slotStart}
+use Rattle.octets.specs.Search.{replaceFirst}
 use Rattle.token_store.specs.declared.Slot.{Slot}
+use Rattle.token_store.specs.declared.Found.{Found}
+use Rattle.token_store.specs.declared.Found.the-variants.{At as Found·At, Nothing}
+use Rattle.token_store.specs.declared.Vacancy.{Vacancy}
+use Rattle.token_store.specs.declared.Vacancy.the-variants.{At as Vacancy·At, Full}
 use Rattle.token_store.specs.declared.Sought.{Sought}
 use Rattle.token_store.specs.declared.Sought.the-variants.{Code, Access, Refresh}
 
@@ -35,32 +40,33 @@ kindAccess = 3
 abbrev pub kindRefresh : ℕ
 kindRefresh = 4
 
+-- the kinds number up to the last of them
+abbrev pub kindLast : ℕ
+kindLast = kindRefresh
+
 abbrev pub isUsed : Slot → Bool
 isUsed s = not (eqb (s .kind) kindFree)
-
--- "for a code, 1 or 2"
-abbrev pub isCode : Slot → Bool
-isCode s = eqb (s .kind) kindCode || eqb (s .kind) kindBoundCode
 
 abbrev pub isBoundCode : Slot → Bool
 isBoundCode s = eqb (s .kind) kindBoundCode
 
-abbrev pub isAccess : Slot → Bool
-isAccess s = eqb (s .kind) kindAccess
-
-abbrev pub isRefresh : Slot → Bool
-isRefresh s = eqb (s .kind) kindRefresh
+-- "for a code, 1 or 2"
+abbrev pub isSought : Sought → Slot → Bool
+isSought Code s = eqb (s .kind) kindCode || eqb (s .kind) kindBoundCode
+isSought Access s = eqb (s .kind) kindAccess
+isSought Refresh s = eqb (s .kind) kindRefresh
 
 unfoldable pub freeSlot : Slot
 freeSlot = record { kind = kindFree; handle = replicate handleSize 0; client = 0; farm = 0; scope = 0; expiry = 0 }
 
 -- ---- time: "Something is live while T is below its expiry."
 
--- "Expiry is T plus 600 (code), 3,600 (access), 2,592,000 (refresh)."
+-- "Expiry is T plus 600 (code), 3,600 (access), 2,592,000 (refresh).": a row for each kind
+abbrev pub lifetimes : List ℕ
+lifetimes = 0 ∷ 600 ∷ 600 ∷ 3600 ∷ 2592000 ∷ []
+
 abbrev pub lifetimeOf : ℕ → ℕ
-lifetimeOf kind =
-    cond (eqb kind kindCode || eqb kind kindBoundCode) 600
-    (cond (eqb kind kindAccess) 3600 (cond (eqb kind kindRefresh) 2592000 0))
+lifetimeOf kind = getD lifetimes kind 0
 
 abbrev pub isLive : ℕ → Slot → Bool
 isLive t s = isUsed s && ltb t (s .expiry)
@@ -79,25 +85,18 @@ holds h s = isUsed s && same h (s .handle)
 abbrev pub shows : HandleText → Slot → Bool
 shows p s = p .valid && same (p .bytes) (s .handle)
 
-abbrev pub codeKey : HandleText → Slot → Bool
-codeKey p s = isCode s && shows p s
-
-abbrev pub accessKey : HandleText → Slot → Bool
-accessKey p s = isAccess s && shows p s
-
-abbrev pub refreshKey : HandleText → Slot → Bool
-refreshKey p s = isRefresh s && shows p s
-
--- the same three by what is sought
-abbrev pub isSought : Sought → Slot → Bool
-isSought Code s = isCode s
-isSought Access s = isAccess s
-isSought Refresh s = isRefresh s
-
 abbrev pub soughtKey : Sought → HandleText → Slot → Bool
 soughtKey q p s = isSought q s && shows p s
 
--- ---- one slot of a store, and the store with another slot or time
+-- ---- what a search of the slots gives, by the place of the first that passes
+
+abbrev pub foundAt : ℕ → Found
+foundAt i = cond (ltb i slotCount) (Found·At i) Nothing
+
+abbrev pub vacancyAt : ℕ → Vacancy
+vacancyAt i = cond (ltb i slotCount) (Vacancy·At i) Full
+
+-- ---- one slot of a store, and the store with another slot, other slots or another time
 
 abbrev pub slotOf : Store → ℕ → Slot
 slotOf g i = getD (g .slots) i freeSlot
@@ -105,8 +104,15 @@ slotOf g i = getD (g .slots) i freeSlot
 abbrev pub withSlot : Store → ℕ → Slot → Store
 withSlot g i s = record { time = g .time; slots = set (g .slots) i s }
 
+abbrev pub withSlots : Store → List Slot → Store
+withSlots g slots = record { time = g .time; slots = slots }
+
 abbrev pub withTime : Store → ℕ → Store
 withTime g t = record { time = t; slots = g .slots }
+
+-- "Issue takes the lowest slot that is free or has run out at T, so old room is used again."
+abbrev pub issue : ℕ → Slot → List Slot → List Slot
+issue t s slots = replaceFirst (isVacant t) s slots
 
 -- "A call's time T is the larger of clock and mark."
 abbrev pub callTime : Store → ℕ → ℕ

@@ -1,10 +1,11 @@
-// What stands in slot i.
+// What stands in slot i: a field of it, a test of it, or all of it.
+use crate::Slot;
 use crate::layout;
 ghost use mathlib.Core.Path.{_≡_};
-ghost use Prim.Native.Nat.{_<_};
+ghost use Prim.Native.Nat.{_+_, _<_, _≤_};
 ghost use lib.ListN.{length};
-ghost use Rattle.octets.specs.Lists.{same};
-ghost use Rattle.token_store.specs.Layout.{storeSize, slotCount, slotStart};
+ghost use Rattle.octets.specs.Lists.{part, same};
+ghost use Rattle.token_store.specs.Layout.{storeSize, slotCount, handleSize, slotStart};
 ghost use Rattle.token_store.specs.Store.{decode, slotOf, isLive};
 
 // Where slot i starts.
@@ -15,6 +16,8 @@ pub fn slot_start(i: usize) -> usize
     layout::TIME_SIZE + i * layout::SLOT_SIZE
 }
 
+// ---- single fields: a scan of the store looks at no others
+
 pub fn kind_of(store: &[u8], i: usize) -> u8
     requires { ⌜ (length (now store) ≡ storeSize) × (i < slotCount) ⌝ }
     ensures { λ r. ⌜ r ≡ slotOf (decode (now (store .entry))) i .kind ⌝ }
@@ -22,28 +25,7 @@ pub fn kind_of(store: &[u8], i: usize) -> u8
     store[slot_start(i)]
 }
 
-pub fn client_of(store: &[u8], i: usize) -> u8
-    requires { ⌜ (length (now store) ≡ storeSize) × (i < slotCount) ⌝ }
-    ensures { λ r. ⌜ r ≡ slotOf (decode (now (store .entry))) i .client ⌝ }
-{
-    store[slot_start(i) + layout::AT_CLIENT]
-}
-
-pub fn farm_of(store: &[u8], i: usize) -> u32
-    requires { ⌜ (length (now store) ≡ storeSize) × (i < slotCount) ⌝ }
-    ensures { λ r. ⌜ r ≡ slotOf (decode (now (store .entry))) i .farm ⌝ }
-{
-    octets::read_be32(store, slot_start(i) + layout::AT_FARM)
-}
-
-pub fn scope_of(store: &[u8], i: usize) -> u8
-    requires { ⌜ (length (now store) ≡ storeSize) × (i < slotCount) ⌝ }
-    ensures { λ r. ⌜ r ≡ slotOf (decode (now (store .entry))) i .scope ⌝ }
-{
-    store[slot_start(i) + layout::AT_SCOPE]
-}
-
-pub fn expiry_of(store: &[u8], i: usize) -> u64
+fn expiry_of(store: &[u8], i: usize) -> u64
     requires { ⌜ (length (now store) ≡ storeSize) × (i < slotCount) ⌝ }
     ensures { λ r. ⌜ r ≡ slotOf (decode (now (store .entry))) i .expiry ⌝ }
 {
@@ -66,4 +48,33 @@ pub fn is_live(store: &[u8], i: usize, t: u64) -> bool
     ensures { λ r. ⌜ r ≡ isLive t (slotOf (decode (now (store .entry))) i) ⌝ }
 {
     (kind_of(store, i) != layout::KIND_FREE) & (t < expiry_of(store, i))
+}
+
+// ---- the whole slot
+
+// The handle in the bytes from `at` on.
+pub fn handle_at(b: &[u8], at: usize) -> [u8; layout::HANDLE_SIZE]
+    requires { ⌜ at + handleSize ≤ length (now b) ⌝ }
+    ensures { λ r. ⌜ r ≡ part (now (b .entry)) at handleSize ⌝ }
+{
+    let mut handle = [0u8; layout::HANDLE_SIZE];
+    let end = at + layout::HANDLE_SIZE;
+    octets::copy_at(&mut handle, 0, &b[at..end]);
+    handle
+}
+
+pub fn slot_at(store: &[u8], i: usize) -> Slot
+    requires { ⌜ (length (now store) ≡ storeSize) × (i < slotCount) ⌝ }
+    ensures { λ r. ⌜ r ≡ slotOf (decode (now (store .entry))) i ⌝ }
+{
+    let at = slot_start(i);
+    let handle = handle_at(store, at + layout::AT_HANDLE);
+    Slot {
+        kind: store[at],
+        handle,
+        client: store[at + layout::AT_CLIENT],
+        farm: octets::read_be32(store, at + layout::AT_FARM),
+        scope: store[at + layout::AT_SCOPE],
+        expiry: octets::read_be64(store, at + layout::AT_EXPIRY),
+    }
 }

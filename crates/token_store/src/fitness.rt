@@ -17,7 +17,7 @@ fn fit_slot(slot: &[u8], clients: u8) -> bool
     if kind == layout::KIND_FREE {
         return octets::all_zero(slot);
     }
-    (kind <= layout::KIND_REFRESH)
+    (kind <= layout::KIND_LAST)
         & (slot[layout::AT_CLIENT] < clients)
         & (slot[layout::AT_SCOPE] != 0)
 }

@@ -18,7 +18,7 @@ pub const AT_SCOPE: usize = 26;
 
 pub const AT_EXPIRY: usize = 27;
 
-pub const HANDLE_SIZE: usize = 20;
+pub const HANDLE_SIZE: usize = encoding::HANDLE_SIZE;
 
 pub const FARM_SIZE: usize = 4;
 
@@ -38,5 +38,8 @@ pub const KIND_ACCESS: u8 = 3;
 
 pub const KIND_REFRESH: u8 = 4;
 
-// How many seconds what is issued lives, by its kind.
+// The kinds number up to the last of them.
+pub const KIND_LAST: u8 = KIND_REFRESH;
+
+// How many seconds what is issued lives: a row for each kind.
 pub const LIFETIMES: [u64; 5] = [0, 600, 600, 3600, 2592000];

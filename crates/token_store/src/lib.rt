@@ -2,6 +2,9 @@
 //
 // `fit` answers whether bytes are a store; every other function asks for bytes of the right length. Contracts speak of
 // the decoded store, whose slots are numbered from 0: no caller looks at a byte.
+ghost use mathlib.Core.Path.{_≡_};
+ghost use Rattle.token_store.specs.Store.{isLive};
+
 mod fields;
 mod fitness;
 pub mod layout;
@@ -9,24 +12,17 @@ mod search;
 mod time;
 mod write;
 
-pub use fields::client_of;
-pub use fields::expiry_of;
-pub use fields::farm_of;
-pub use fields::has_handle;
-pub use fields::is_live;
-pub use fields::kind_of;
-pub use fields::scope_of;
+pub use fields::handle_at;
+pub use fields::slot_at;
 pub use fitness::fit;
 pub use search::clashes;
-pub use search::count_vacant;
 pub use search::find;
-pub use search::vacant;
+pub use search::has_room;
 pub use time::call_time;
 pub use time::lifetime;
 pub use time::set_time;
-pub use time::time_of;
 pub use write::clear;
-pub use write::put;
+pub use write::issue;
 
 // What a slot of the store holds.
 pub struct Slot {
@@ -38,10 +34,13 @@ pub struct Slot {
     pub expiry: u64,
 }
 
-// What a look-up gives: a slot's number, or nothing.
-pub enum Found {
-    At(usize),
-    Nothing,
+impl Slot {
+    // Whether it is in use and has not run out at t.
+    pub fn is_live(self, t: u64) -> bool
+        ensures { λ r. ⌜ r ≡ isLive t self ⌝ }
+    {
+        (self.kind != layout::KIND_FREE) & (t < self.expiry)
+    }
 }
 
 // What a look-up is for: a code of either kind, an access token or a refresh token.
@@ -49,4 +48,16 @@ pub enum Sought {
     Code,
     Access,
     Refresh,
+}
+
+// What a look-up gives: a slot's number, or nothing.
+pub enum Found {
+    At(usize),
+    Nothing,
+}
+
+// Where there is room for one slot more: the number of a slot that is free or has run out, or nowhere.
+pub enum Vacancy {
+    At(usize),
+    Full,
 }

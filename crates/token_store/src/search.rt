@@ -1,6 +1,7 @@
-// Look-ups, each from the lowest slot on, and counts.
+// Scans of the store, each from the lowest slot on: look-ups, the first vacant slot, and whether there is room.
 use crate::Found;
 use crate::Sought;
+use crate::Vacancy;
 use crate::fields::has_handle;
 use crate::fields::is_live;
 use crate::fields::kind_of;
@@ -10,8 +11,9 @@ ghost use mathlib.Core.Path.{_≡_};
 ghost use Prim.Native.Nat.{_<_};
 ghost use lib.ListN.{length};
 ghost use Rattle.token_store.specs.Layout.{storeSize, slotCount};
-ghost use Rattle.token_store.specs.Search.{indexFrom, count, any};
-ghost use Rattle.token_store.specs.Store.{decode, slotOf, isVacant, holds, isSought, soughtKey};
+ghost use lib.Dec.{leb};
+ghost use Rattle.octets.specs.Search.{indexWhere, count, any};
+ghost use Rattle.token_store.specs.Store.{decode, slotOf, isVacant, holds, isSought, soughtKey, foundAt, vacancyAt};
 
 // Whether slot i is of a kind that is sought.
 fn is_sought(store: &[u8], i: usize, sought: Sought) -> bool
@@ -41,7 +43,7 @@ fn matches(store: &[u8], i: usize, sought: Sought, presented: HandleText) -> boo
 // The lowest slot of a kind that is sought with the handle presented, run out or not.
 pub fn find(store: &[u8], sought: Sought, presented: HandleText) -> Found
     requires { ⌜ length (now store) ≡ storeSize ⌝ }
-    ensures { λ r. ⌜ r ≡ indexFrom (soughtKey sought presented) 0 (decode (now (store .entry)) .slots) ⌝ }
+    ensures { λ r. ⌜ r ≡ foundAt (indexWhere (soughtKey sought presented) (decode (now (store .entry)) .slots)) ⌝ }
 {
     for i in 0..layout::SLOT_COUNT {
         if matches(store, i, sought, presented) {
@@ -52,30 +54,33 @@ pub fn find(store: &[u8], sought: Sought, presented: HandleText) -> Found
 }
 
 // The lowest slot that is free or has run out at t.
-pub fn vacant(store: &[u8], t: u64) -> Found
+pub fn vacant(store: &[u8], t: u64) -> Vacancy
     requires { ⌜ length (now store) ≡ storeSize ⌝ }
-    ensures { λ r. ⌜ r ≡ indexFrom (isVacant t) 0 (decode (now (store .entry)) .slots) ⌝ }
+    ensures { λ r. ⌜ r ≡ vacancyAt (indexWhere (isVacant t) (decode (now (store .entry)) .slots)) ⌝ }
 {
     for i in 0..layout::SLOT_COUNT {
         if !is_live(store, i, t) {
-            return Found::At(i);
+            return Vacancy::At(i);
         }
     }
-    Found::Nothing
+    Vacancy::Full
 }
 
-// How many slots are free or have run out at t.
-pub fn count_vacant(store: &[u8], t: u64) -> usize
+// Whether at least n slots are free or have run out at t.
+pub fn has_room(store: &[u8], t: u64, n: usize) -> bool
     requires { ⌜ length (now store) ≡ storeSize ⌝ }
-    ensures { λ r. ⌜ r ≡ count (isVacant t) (decode (now (store .entry)) .slots) ⌝ }
+    ensures { λ r. ⌜ r ≡ leb n (count (isVacant t) (decode (now (store .entry)) .slots)) ⌝ }
 {
-    let mut n = 0;
+    let mut needed = n;
     for i in 0..layout::SLOT_COUNT {
+        if needed == 0 {
+            return true;
+        }
         if !is_live(store, i, t) {
-            n += 1;
+            needed -= 1;
         }
     }
-    n
+    needed == 0
 }
 
 // Whether slot i is in use, run out or not, and has this handle.

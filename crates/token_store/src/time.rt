@@ -4,7 +4,7 @@ ghost use mathlib.Core.Path.{_≡_};
 ghost use Prim.Native.Nat.{_≤_};
 ghost use lib.ListN.{length};
 ghost use Rattle.token_store.specs.Layout.{storeSize};
-ghost use Rattle.token_store.specs.Store.{decode, withTime, callTime, lifetimeOf, kindRefresh};
+ghost use Rattle.token_store.specs.Store.{decode, withTime, callTime, lifetimeOf, kindLast};
 
 // The latest time seen.
 pub fn time_of(store: &[u8]) -> u64
@@ -36,7 +36,7 @@ pub fn set_time(store: &mut [u8], t: u64)
 
 // How many seconds what is issued lives.
 pub fn lifetime(kind: u8) -> u64
-    requires { ⌜ kind ≤ kindRefresh ⌝ }
+    requires { ⌜ kind ≤ kindLast ⌝ }
     ensures { λ r. ⌜ r ≡ lifetimeOf kind ⌝ }
 {
     layout::LIFETIMES[kind as usize]

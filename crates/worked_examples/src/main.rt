@@ -1,54 +1,146 @@
-// worked_examples: runs the examples of the papers and of the RFCs through the proved code, and writes what it finds.
-// The file `stdout` has what the papers say.
-mod visit;
-
+// worked_examples: runs the examples of the papers and of the RFCs through the proved code. The examples are the lines of
+// the file `stdin`, each a command with its arguments; every line is written out again, with what came of it below. The
+// file `stdout` has what the papers say.
+//
+// A command is known by its first letter. One space stands between two arguments, and the last runs to the end of its
+// line. HEX is bytes as hex digits; the endpoints take their random bytes so.
+//
+//   base64 TEXT                                 what a base64 text decodes to
+//   handle TEXT                                 whether a text is a handle
+//   octets HEX                                  bytes as a handle's are written, and as the writer of forms writes them
+//   written TEXT                                a text as the writer of forms writes it
+//   form NAME FORM                              what a form says of a name
+//   scope VALUE                                 what a scope value says, coded as in a form
+//   new                                         a token store with nothing in it
+//   authorize CLOCK DECISION FARM HEX QUERY     the endpoints, on that store and the registry of document 01's visit
+//   token CLOCK HEX BODY HEADER
+//   check CLOCK TOKEN
+use client_registry::layout;
 use encoding::Decoded;
 use form::Count;
 use form::Outcome;
+use form::Place;
+use libc::STDIN_FILENO;
 use libc::STDOUT_FILENO;
+use protocol::CheckAnswer;
+use protocol::Decision;
+use protocol::Failure;
+use protocol::Input;
+use protocol::LiveToken;
+use protocol::PageCause;
+use protocol::Refusal;
+use protocol::limits;
 use scope::Scope;
 use scope::ScopeValue;
 
-const ROOM: usize = 512;
+// The most bytes of a text that is decoded or written.
+const MOST_TEXT: usize = 512;
+
+// Beyond it a number is read no further: above every clock, 2 to the 40.
+const MOST_NUMBER: u64 = 1000000000000000;
+
+const REGISTRY_SIZE: usize = layout::CONFIDENTIAL_SIZE + layout::PUBLIC_SIZE;
+
+// ---- writing what came of a line
 
 fn say(text: &[u8]) {
     io::write_all(STDOUT_FILENO, text);
 }
 
-// Ends a line with what was found.
+fn say_number(label: &[u8], n: u64) {
+    say(label);
+    io::print_decimal(STDOUT_FILENO, n);
+}
+
+// Writes what came of a line, where it is one text.
 fn found(text: &[u8]) {
+    say(b"= ");
+    if text.len() == 0 {
+        say(b"(no bytes)");
+    }
     say(text);
     say(b"\n");
 }
 
-// Writes the first n bytes of a buffer as the end of a line.
-fn found_bytes(buffer: &[u8], n: usize) {
-    let start = 0;
-    if n <= buffer.len() {
-        found(&buffer[start..n]);
+// ---- the parts of a line
+
+// The first n bytes, or all where there are fewer.
+fn first(bytes: &[u8], n: usize) -> &[u8] {
+    if bytes.len() < n {
+        return bytes;
     }
+    let start = 0;
+    &bytes[start..n]
 }
 
-// What a base64 text decodes to.
+// The text before the first space.
+fn word(line: &[u8]) -> &[u8] {
+    first(line, octets::index_of(line, b' '))
+}
+
+// The text behind the first space.
+fn rest(line: &[u8]) -> &[u8] {
+    let n = octets::index_of(line, b' ');
+    if line.len() <= n {
+        return first(line, 0);
+    }
+    let from = n + 1;
+    &line[from..]
+}
+
+// The decimal number that a text begins with.
+fn number(text: &[u8]) -> u64 {
+    let mut n: u64 = 0;
+    for i in 0..text.len() {
+        let c = text[i];
+        if c < b'0' {
+            return n;
+        }
+        if b'9' < c {
+            return n;
+        }
+        if MOST_NUMBER < n {
+            return n;
+        }
+        n = n * 10 + (c - b'0') as u64;
+    }
+    n
+}
+
+// Writes the bytes that a text's hex digits stand for to the front of `out`, as many as it has room for, and gives their
+// number.
+fn from_hex(text: &[u8], out: &mut [u8]) -> usize {
+    for n in 0..out.len() {
+        if text.len() / 2 <= n {
+            return n;
+        }
+        let high = encoding::hex_value(text[2 * n], true);
+        let low = encoding::hex_value(text[2 * n + 1], true);
+        if 15 < high {
+            return n;
+        }
+        if 15 < low {
+            return n;
+        }
+        out[n] = high * 16 + low;
+    }
+    out.len()
+}
+
+// ---- texts
+
 fn base64(text: &[u8]) {
-    say(b"base64 '");
-    say(text);
-    say(b"': ");
-    let mut out = [0u8; ROOM];
-    if ROOM < text.len() {
+    let mut out = [0u8; MOST_TEXT];
+    if MOST_TEXT < text.len() {
         return;
     }
     match encoding::decode_base64(text, &mut out) {
-        Decoded::Length(n) => found_bytes(&out, n),
+        Decoded::Length(n) => found(first(&out, n)),
         Decoded::Malformed => found(b"refused"),
     }
 }
 
-// Whether a text is a handle.
 fn handle(text: &[u8]) {
-    say(b"handle '");
-    say(text);
-    say(b"': ");
     let h = encoding::read_handle(text);
     if h.valid {
         found(b"a handle");
@@ -57,165 +149,344 @@ fn handle(text: &[u8]) {
     }
 }
 
-// Some bytes in lower-case hex.
-fn hex(bytes: &[u8]) {
-    say(b"hex: ");
-    let mut out = [0u8; ROOM];
-    if ROOM / 2 < bytes.len() {
+fn digits(bytes: &[u8]) {
+    let mut out = [0u8; 2 * MOST_TEXT];
+    if MOST_TEXT < bytes.len() {
         return;
     }
-    encoding::write_hex(&mut out, 0, bytes);
-    found_bytes(&out, 2 * bytes.len());
+    let end = encoding::append_hex(&mut out, 0, bytes);
+    found(first(&out, end));
 }
 
-// How the writer of forms writes some bytes.
-fn written(bytes: &[u8]) {
-    say(b"written: ");
-    let mut out = [0u8; 1536];
-    if ROOM < bytes.len() {
+fn written(text: &[u8]) {
+    let mut out = [0u8; 3 * MOST_TEXT];
+    if MOST_TEXT < text.len() {
         return;
     }
-    let n = form_coding::write_value(&mut out, 0, bytes);
-    found_bytes(&out, n);
+    let end = form_coding::append_value(&mut out, 0, text);
+    found(first(&out, end));
 }
 
-// What a form says of the name at place k of a list of names.
-fn form_says(s: &[u8], names: &[u8], k: usize) {
-    say(b"form '");
-    say(s);
-    say(b"': ");
-    if ROOM < s.len() {
+fn octets_written(text: &[u8]) {
+    let mut out = [0u8; MOST_TEXT];
+    let n = from_hex(text, &mut out);
+    let bytes = first(&out, n);
+    digits(bytes);
+    written(bytes);
+}
+
+fn decoded(value: &[u8]) {
+    let mut out = [0u8; MOST_TEXT];
+    if MOST_TEXT < value.len() {
         return;
     }
-    if form::PLACES <= k {
-        return;
-    }
-    let f = form::read(s, names);
-    let outcome = f.outcome;
-    if let Outcome::Malformed = outcome {
-        found(b"malformed");
-        return;
-    }
-    let places = f.places;
-    let place = places[k];
+    let n = form_coding::decode_into(value, &mut out);
+    found(first(&out, n));
+}
+
+fn place_says(s: &[u8], place: Place) {
     let count = place.count;
-    place_says(s, count, place.start, place.end);
-}
-
-// What a place of a form says.
-fn place_says(s: &[u8], count: Count, start: usize, end: usize) {
-    let mut out = [0u8; ROOM];
+    let start = place.start;
     match count {
         Count::Missing => found(b"missing"),
         Count::Repeated => found(b"repeated"),
         Count::Once => {
-            if end < start {
-                return;
+            let before = first(s, place.end);
+            if start <= before.len() {
+                decoded(&before[start..]);
             }
-            if s.len() < end {
-                return;
-            }
-            if ROOM < s.len() {
-                return;
-            }
-            let n = form_coding::decode_into(&s[start..end], &mut out);
-            found_bytes(&out, n);
         }
     }
 }
 
-// What a scope value says: its names in the table's order.
-fn scope_says(v: &[u8]) {
-    say(b"scope '");
-    say(v);
-    say(b"': ");
-    let mut out = [0u8; 64];
-    match scope::read(v) {
-        ScopeValue::Names(set) => {
-            let n = scope::write(&mut out, 0, set);
-            found_bytes(&out, n);
-        }
+fn form_says(args: &[u8]) {
+    let s = rest(args);
+    let f = form::read(s, word(args));
+    let outcome = f.outcome;
+    let places = f.places;
+    let place = places[0];
+    match outcome {
+        Outcome::Malformed => found(b"malformed"),
+        Outcome::WellFormed => place_says(s, place),
+    }
+}
+
+fn names(set: Scope) {
+    let mut out = [0u8; MOST_TEXT];
+    let end = scope::append(&mut out, 0, set);
+    found(first(&out, end));
+}
+
+fn value_says(value: &[u8]) {
+    match scope::read(value) {
         ScopeValue::Invalid => found(b"invalid"),
+        ScopeValue::Names(set) => names(set),
     }
 }
 
-// Whether the names of one set are all in another.
-fn within(a: u8, b: u8) {
-    if Scope::from_byte(a).within(Scope::from_byte(b)) {
-        found(b"yes");
+fn scope_says(coded: &[u8]) {
+    let mut value = [0u8; MOST_TEXT];
+    if MOST_TEXT < coded.len() {
+        return;
+    }
+    let n = form_coding::decode_into(coded, &mut value);
+    value_says(first(&value, n));
+}
+
+// ---- the registry of the visit
+
+fn put_byte(registry: &mut [u8], at: usize, b: u8) {
+    if at < registry.len() {
+        registry[at] = b;
+    }
+}
+
+// Writes a field: its length, then its bytes.
+fn put_field(registry: &mut [u8], at: usize, text: &[u8]) {
+    if layout::REDIRECT_ROOM < text.len() {
+        return;
+    }
+    if registry.len() <= at {
+        return;
+    }
+    if registry.len() - at - 1 < text.len() {
+        return;
+    }
+    put_byte(registry, at, text.len() as u8);
+    octets::copy_at(registry, at + 1, text);
+}
+
+// Writes the parts that every record has.
+fn put_client(registry: &mut [u8], start: usize, kind: u8, id: &[u8], redirect: &[u8], scope: u8) {
+    if REGISTRY_SIZE < start {
+        return;
+    }
+    put_byte(registry, start, kind);
+    put_field(registry, start + layout::AT_ID, id);
+    put_field(registry, start + layout::AT_REDIRECT, redirect);
+    put_byte(registry, start + layout::AT_SCOPE, scope);
+}
+
+// "Client 0: confidential, `s6BhdRkqt3`, `gX1fBat3bV`, `https://client.example.com/cb`, set 11. Client 1: public, `barnapp`,
+// `https://barn.example/r?x=1`, set 1."
+fn put_clients(registry: &mut [u8]) {
+    put_client(
+        registry,
+        0,
+        layout::CONFIDENTIAL_KIND,
+        b"s6BhdRkqt3",
+        b"https://client.example.com/cb",
+        11,
+    );
+    put_field(registry, layout::AT_SECRET, b"gX1fBat3bV");
+    put_client(
+        registry,
+        layout::CONFIDENTIAL_SIZE,
+        layout::PUBLIC_KIND,
+        b"barnapp",
+        b"https://barn.example/r?x=1",
+        1,
+    );
+}
+
+// ---- the endpoints
+
+fn unfit_number(input: Input) -> u64 {
+    match input {
+        Input::Buffers => 1,
+        Input::Registry => 2,
+        Input::Store => 3,
+        Input::Clock => 4,
+    }
+}
+
+fn page_number(cause: PageCause) -> u64 {
+    match cause {
+        PageCause::Query => 5,
+        PageCause::Client => 6,
+        PageCause::RedirectUri => 7,
+    }
+}
+
+fn failure_status(failure: Failure) -> u64 {
+    match failure {
+        Failure::NoRoom => 503,
+        Failure::Clash => 500,
+    }
+}
+
+// The number of a refusal, 1 to 7, or its HTTP status. One that is sent to the redirect address has neither.
+fn refusal_number(refusal: Refusal) -> u64 {
+    match refusal {
+        Refusal::Unfit(input) => unfit_number(input),
+        Refusal::ErrorPage(cause) => page_number(cause),
+        Refusal::Redirect(_) => 0,
+        Refusal::Token(word) => error_words::status(word) as u64,
+        Refusal::Failed(failure) => failure_status(failure),
+    }
+}
+
+fn decision_number(decision: Decision, granted: u64) -> u64 {
+    match decision {
+        Decision::Grant => granted,
+        Decision::Refuse(refusal) => refusal_number(refusal),
+    }
+}
+
+// Writes what an endpoint answered.
+fn answered(number: u64, output: &[u8]) {
+    if number == 0 {
+        return found(output);
+    }
+    if number < 8 {
+        say_number(b"= refusal ", number);
     } else {
-        found(b"no");
+        say_number(b"= status ", number);
+        say(b" ");
+    }
+    say(output);
+    say(b"\n");
+}
+
+fn authorize_with(
+    query: &[u8],
+    decision: u64,
+    farm: u64,
+    registry: &[u8],
+    store: &mut [u8],
+    clock: u64,
+    random: &[u8],
+) {
+    let mut output = [0u8; limits::LEAST_OUTPUT];
+    let farm = (farm % 4294967296) as u32;
+    let answer = authorization_endpoint::authorize(
+        query,
+        decision,
+        farm,
+        registry,
+        store,
+        clock,
+        random,
+        &mut output,
+    );
+    let decided = answer.decision;
+    answered(decision_number(decided, 0), first(&output, answer.length));
+}
+
+fn authorize(clock: &[u8], registry: &[u8], store: &mut [u8]) {
+    let mut random = [0u8; limits::CODE_RANDOM];
+    let decision = rest(clock);
+    let farm = rest(decision);
+    let hex = rest(farm);
+    let n = from_hex(hex, &mut random);
+    authorize_with(
+        rest(hex),
+        number(decision),
+        number(farm),
+        registry,
+        store,
+        number(clock),
+        first(&random, n),
+    );
+}
+
+fn token_with(
+    header: &[u8],
+    body: &[u8],
+    registry: &[u8],
+    store: &mut [u8],
+    clock: u64,
+    random: &[u8],
+) {
+    let mut output = [0u8; limits::LEAST_OUTPUT];
+    let answer = token_endpoint::token(header, body, registry, store, clock, random, &mut output);
+    let decided = answer.decision;
+    answered(decision_number(decided, 200), first(&output, answer.length));
+    if answer.challenge {
+        found(b"challenge");
     }
 }
 
-// RFC 4648, section 10, the header of the papers' visit, and texts that are no base64.
-fn base64_cases() {
-    base64(b"czZCaGRSa3F0MzpnWDFmQmF0M2JW");
-    base64(b"");
-    base64(b"Zg==");
-    base64(b"Zm8=");
-    base64(b"Zm9v");
-    base64(b"Zm9vYg==");
-    base64(b"Zm9vYmE=");
-    base64(b"Zm9vYmFy");
-    base64(b"Zh==");
-    base64(b"Zm9=");
-    base64(b"Zg=");
-    base64(b"Zg==Zg==");
-    base64(b"Zm-v");
+fn token(clock: &[u8], registry: &[u8], store: &mut [u8]) {
+    let mut random = [0u8; limits::TOKEN_RANDOM];
+    let hex = rest(clock);
+    let body = rest(hex);
+    let n = from_hex(hex, &mut random);
+    token_with(
+        rest(body),
+        word(body),
+        registry,
+        store,
+        number(clock),
+        first(&random, n),
+    );
 }
 
-fn handle_cases() {
-    hex(b"\x00\x01\x02\x03\x04\x05\x06\x07\x08\x09\x0a\x0b\x0c\x0d\x0e\x0f\x10\x11\x12\x13");
-    hex(b"\xab\xcd\xef");
-    handle(b"000102030405060708090a0b0c0d0e0f10111213");
-    handle(b"000102030405060708090A0B0C0D0E0F10111213");
-    handle(b"000102030405060708090a0b0c0d0e0f1011121");
-    handle(b"");
+fn live(token: LiveToken) {
+    say_number(b"= live: client ", token.client as u64);
+    say_number(b", farm ", token.farm as u64);
+    say_number(b", set ", token.scope as u64);
+    say_number(b", seconds left ", token.left);
+    say(b"\n");
 }
 
-// The writer and the reader of forms: RFC 6749, Appendix B and section 4.1.1, and the papers' rules.
-fn form_cases() {
-    let names = b"response_type&client_id&redirect_uri&scope&state";
-    let query =
-        b"response_type=code&client_id=s6BhdRkqt3&state=xyz&redirect_uri=https%3A%2F%2Fclient%2Eexample%2Ecom%2Fcb";
-    written(b"\x20\x25\x26\x2b\xc2\xa3\xe2\x82\xac");
-    written(b"a-Z.0_9*~");
-    written(b"");
-    form_says(query, names, 0);
-    form_says(query, names, 1);
-    form_says(query, names, 2);
-    form_says(query, names, 3);
-    form_says(query, names, 4);
-    form_says(b"a=%4", names, 4);
-    form_says(b"state=&state=x", names, 4);
-    form_says(b"state=x&state=x", names, 4);
-    form_says(b"%73tate=+%25%26%2B%C2%A3%E2%82%AC", names, 4);
-    form_says(b"state==x=y&=&&a", names, 4);
-    form_says(b"state%3Dx", names, 4);
-    form_says(b"state=a%26b", names, 4);
+fn checked(answer: CheckAnswer) {
+    match answer {
+        CheckAnswer::Refused(refusal) => answered(refusal_number(refusal), b""),
+        CheckAnswer::NotLive => found(b"not live"),
+        CheckAnswer::Live(token) => live(token),
+    }
 }
 
-fn scope_cases() {
-    scope_says(b"bill power");
-    scope_says(b"power bill power");
-    scope_says(b"power  bill");
-    scope_says(b" power");
-    scope_says(b"power ");
-    scope_says(b"pow");
-    scope_says(b"powers");
-    scope_says(b"Power");
-    scope_says(b"solar pump drying milking bill tariff peak power");
-    say(b"9 within 11: ");
-    within(9, 11);
-    say(b"13 within 11: ");
-    within(13, 11);
+fn check(clock: &[u8], registry: &[u8], store: &mut [u8]) {
+    checked(token_check::check(rest(clock), registry, store, number(clock)));
+}
+
+// ---- the lines
+
+fn run(command: u8, args: &[u8], registry: &[u8], store: &mut [u8]) {
+    match command {
+        b'a' => authorize(args, registry, store),
+        b'b' => base64(args),
+        b'c' => check(args, registry, store),
+        b'f' => form_says(args),
+        b'h' => handle(args),
+        b'n' => octets::clear_at(store, 0, store.len()),
+        b'o' => octets_written(args),
+        b's' => scope_says(args),
+        b't' => token(args, registry, store),
+        b'w' => written(args),
+        _ => found(b"no such command"),
+    }
+}
+
+// Writes a line, and runs it unless it is empty or a comment.
+fn run_line(line: &[u8], registry: &[u8], store: &mut [u8]) {
+    say(line);
+    say(b"\n");
+    if line.len() == 0 {
+        return;
+    }
+    if line[0] == b'#' {
+        return;
+    }
+    run(line[0], rest(line), registry, store);
+}
+
+fn run_lines(lines: &[u8], registry: &[u8], store: &mut [u8]) {
+    let mut at = 0;
+    while at < lines.len() {
+        let end = at + octets::index_of(&lines[at..], b'\n');
+        run_line(&lines[at..end], registry, store);
+        at = end + 1;
+    }
 }
 
 fn main() {
-    base64_cases();
-    handle_cases();
-    form_cases();
-    scope_cases();
-    visit::run();
+    let mut registry = [0u8; REGISTRY_SIZE];
+    put_clients(&mut registry);
+    let mut store = [0u8; token_store::layout::STORE_SIZE];
+    let mut lines = io::large_buffer();
+    let n = io::read_full(STDIN_FILENO, &mut lines);
+    run_lines(&lines[..n], &registry, &mut store);
 }

@@ -1,56 +1,74 @@
--- The tests come in the order of the refusals, and each way out is one law. What the first and the second test told is
--- carried by the place past them.
+-- The tests come in the order of the refusals. What the test of the registry told is carried by the place past it.
 use borrow.Author.Needs.{needs}
-use borrow.Author.Tests.{not-true, not-false}
+use borrow.Author.Tests.{lt-ltb, le-ltb}
 use Prim.Native.Nat.{ℕ}
-use mathlib.Core.Path.{_≡_, sym, _∙_}
-use mathlib.Core.Bool.{true}
-use native.Mathlib.Omega.{arith}
-use Rattle.client_registry.specs.Registry.{fitnessOf}
-use Rattle.client_registry.specs.declared.Fitness.the-variants.{Clients, Unfit}
-use Rattle.admission.proofs.Admitting.{told-unfit, few-clients, admit-buffers, admit-registry, admit-store, admit-clock, admit-all}
+use mathlib.Core.Path.{_≡_, sym, ap, _∙_}
+use mathlib.Core.Bool.{true, not}
+use lib.ListN.{length}
+use Rattle.client_registry.specs.Registry.{clientsOf, fitRegistry}
+use Rattle.token_store.specs.Fit.{fitStore}
+use Rattle.protocol.specs.Outcomes.{admit}
+use Rattle.protocol.proofs.Reasons.{none, stop, pass, first-counts}
+use Rattle.admission.proofs.Admitting.{told-clients, told-unfit}
 use Rattle.admission.proofs.admit.Statement.{statement}
 use Rattle.admission.proofs.admit.Tie as tie
 
--- the buffers fit
-fits : (c : tie.Else1) → c .before .before .before .args .fits ≡ true
-fits c = not-false (c .before .before .before .args .fits) (c .if1 .left)
+abbrev start : tie.Else1 → tie.Start
+start c = c .before .before .before
 
 -- the registry is fit, with so many clients
-clients : (c : tie.After-clients) → Clients (c .clients .given .0 .0) ≡ fitnessOf (c .before .before .before .before .before .before .args .registry .now)
-clients c = sym (c .clients .given .1) ∙ c .before .before .fitness-of .ensures
+abbrev sized : tie.After-clients → tie.Else1
+sized c = c .before .before .before
+
+told : (c : tie.After-clients)
+    → let registry = start (sized c) .args .registry .now in
+    (fitRegistry registry ≡ true) × (c .clients .given .0 .0 ≡ length (clientsOf registry))
+told c = told-clients _ _ (sym (c .clients .given .1) ∙ c .before .before .fitness-of .ensures)
+
+-- what is known of the store
+abbrev counted : tie.After-fit → tie.After-clients
+counted c = c .before .before
+
+stored : (c : tie.After-fit)
+    → let a = start (sized (counted c)) .args in
+    fitStore (length (clientsOf (a .registry .now))) (a .store .now) ≡ c .fit .result
+stored c = ap (λ (n : ℕ). fitStore n (start (sized (counted c)) .args .store .now)) (sym (told (counted c) .1)) ∙ sym (c .fit .ensures)
 
 returns : tie.Need-returns
-returns c =
-    let a = c .before .before .before .args in
-    admit-buffers (a .registry .now) (a .store .now) (a .clock) (a .fits) (not-true (a .fits) (c .if1 .taken))
+unfolding admit
+returns c = sym (first-counts (stop (c .if1 .taken)))
 
 returns-2 : tie.Need-returns-2
+unfolding admit
 returns-2 c =
-    let a = c .before .before .before .before .before .before .args in
-    let unfit : Unfit ≡ fitnessOf (a .registry .now) = sym (c .enum-told .given .1) ∙ c .before .before .fitness-of .ensures in
-    admit-registry (a .registry .now) (a .store .now) (a .clock) (a .fits) (fits (c .before .before .before)) (told-unfit (a .registry .now) unfit)
-
-cast-fit : tie.Need-cast-fit
-cast-fit c = omega (arith, few-clients (c .before .before .before .before .before .before .before .args .registry .now) (c .before .clients .given .0 .0) (clients (c .before)))
+    let looked = c .before .before in
+    sym (first-counts (pass (looked .before .if1 .left) (stop (ap not (told-unfit _ (sym (c .enum-told .given .1) ∙ looked .fitness-of .ensures))))))
 
 returns-3 : tie.Need-returns-3
+unfolding admit
 returns-3 c =
-    let a = c .before .before .before .before .before .before .before .before .before .args in
-    admit-store (a .registry .now) (a .store .now) (a .clock) (a .fits) (fits (c .before .before .before .before .before .before)) _ (clients (c .before .before .before))
-    (sym (c .before .fit .ensures) ∙ not-true (c .before .fit .result) (c .if2 .taken))
+    let at = counted (c .before) in
+    sym (first-counts (pass (sized at .if1 .left) (pass (ap not (told at .0)) (stop (ap not (stored (c .before)) ∙ c .if2 .taken)))))
+
+-- past the test of the store
+abbrev fitted : tie.Else2 → tie.After-clients
+fitted c = counted (c .before)
 
 returns-4 : tie.Need-returns-4
+unfolding admit
 returns-4 c =
-    let a = c .before .before .before .before .before .before .before .before .before .before .args in
-    admit-clock (a .registry .now) (a .store .now) (a .clock) (a .fits) (fits (c .before .before .before .before .before .before .before)) _ (clients (c .before .before .before .before))
-    (sym (c .before .before .fit .ensures) ∙ not-false (c .before .before .fit .result) (c .before .if2 .left)) (c .if3 .taken)
+    let at = fitted (c .before) in
+    let store = ap not (stored (c .before .before)) ∙ c .before .if2 .left in
+    sym (first-counts
+    (pass (sized at .if1 .left) (pass (ap not (told at .0)) (pass store (stop (lt-ltb _ _ (c .if3 .taken)))))))
 
 returns-5 : tie.Need-returns-5
+unfolding admit
 returns-5 c =
-    let a = c .before .before .before .before .before .before .before .before .before .before .args in
-    admit-all (a .registry .now) (a .store .now) (a .clock) (a .fits) (fits (c .before .before .before .before .before .before .before)) _ (clients (c .before .before .before .before))
-    (sym (c .before .before .fit .ensures) ∙ not-false (c .before .before .fit .result) (c .before .if2 .left)) (c .if3 .left)
+    let at = fitted (c .before) in
+    let store = ap not (stored (c .before .before)) ∙ c .before .if2 .left in
+    sym (first-counts
+    (pass (sized at .if1 .left) (pass (ap not (told at .0)) (pass store (pass (le-ltb _ _ (c .if3 .left)) none)))))
 
 pub admit-spec : {M : Type 1} → statement M
 admit-spec =
@@ -61,7 +79,6 @@ admit-spec =
     (λ c. search needs)
     (λ c. search needs)
     returns-2
-    cast-fit
     (λ c κs. search needs)
     returns-3
     returns-4

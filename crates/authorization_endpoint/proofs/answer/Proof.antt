@@ -2,56 +2,46 @@
 use borrow.Author.Needs.{needs}
 use Prim.Native.Nat.{_≤_}
 use lib.ListN.{length}
-use Rattle.authorization_query.specs.Reading.{askedReading}
-use Rattle.authorization_endpoint.proofs.Serving.{few, redirect-short, served-known}
+use Rattle.client_registry.specs.Layout.{redirectRoom}
+use Rattle.token_store.specs.Store.{decode}
+use Rattle.protocol.specs.Requests.{noHandle}
+use Rattle.authorization_endpoint.proofs.Locations.{address-short, client-served}
 use Rattle.authorization_endpoint.proofs.answer.Statement.{statement}
 use Rattle.authorization_endpoint.proofs.answer.Tie as tie
 
-abbrev entry : tie.After-struct-known → tie.Start
-entry c = c .before .before .before .before .before .before .before .before
+abbrev entry : tie.After-slice-known2 → tie.Start
+entry c = c .before .before .before .before .before
 
-cast-number : tie.Need-cast-number
-cast-number c =
-    let start = entry c in
-    record { fits = few _ _ (start .args .asking) (start .pre .0) (start .pre .1) }
-
-decide-requires : tie.Need-decide-requires
-decide-requires c κs = let p = entry (c .before) .pre in (p .2, p .3, p .4)
-
-redirect-requires : tie.Need-redirect-requires
-redirect-requires c κs = let p = entry (c .before .before .before .before) .pre in (p .0, p .1 .entry)
+abbrev start : tie.After-grant → tie.Start
+start c = entry (c .before .before .before .before)
 
 write-location-requires : tie.Need-write-location-requires
 write-location-requires c κs =
     let address = c .before in
-    let start = entry (address .before .before .before .before .before) in
-    let p = start .pre in
-    let short : length (address .redirect .result .now) ≤ 200 =
-    rw (address .redirect .ensures) (redirect-short _ _ (start .args .asking) (p .0) (p .1))
+    let s = start (address .before .before .before) in
+    let known = s .pre .1 in
+    let short : length (address .redirect .result .now) ≤ redirectRoom =
+    rw (address .redirect .ensures) (address-short _ _ (s .pre .0 .fit) (known .entry))
     in
-    (p .5, short, p .4, p .1 .within, p .1 .short)
+    (record { room = s .pre .4; address = short; within = known .within; short = known .short }, s .pre .3)
 
 returns : tie.Need-returns
 returns c =
     let wrote = c .before .before in
     let address = wrote .before .before in
-    let decided = address .before .before .before in
-    let start = entry (decided .before .before) in
-    let a = start .args in
-    let d = decided .decide in
-    let w = wrote .write-location in
-    served-known (a .registry .now) (a .query .now) (a .asking) (start .pre .0) (start .pre .1) (a .t) (a .random .now) (start .pre .4)
-    (askedReading (a .asking .client .number) (a .asking .asked)) (a .store .now) _ (a .output .now) _
-    (address .redirect .result .now) (address .redirect .ensures) (d .result) (d .ensures .0) (d .ensures .1)
-    (w .result) (w .ensures .0) (w .ensures .1)
+    let made = address .before .before .before in
+    let s = start made in
+    let a = s .args in
+    client-served (a .registry .now) (a .query .now) (a .asking) (s .pre .1) (a .random .now) (s .pre .3) (a .t)
+    (record { request = a .asking .request; presented = noHandle }) (decode (a .store .now)) _ (made .grant .result) (made .grant .ensures)
+    (address .redirect .result .now) (address .redirect .ensures) (a .output .now) _ (wrote .write-location .result) (wrote .write-location .ensures)
 
 pub answer-spec : {M : Type 1} → statement M
 answer-spec =
     tie.close
     (tie.spec
-    cast-number
-    decide-requires
-    redirect-requires
+    (λ c κs. search needs)
+    (λ c κs. search needs)
     write-location-requires
     (λ c. search needs)
     (λ c. search needs)

@@ -1,88 +1,83 @@
--- A refusal leaves everything as it is. Past it the time is stored, and the call is served on what that leaves.
+-- A refusal leaves everything as it is. Past it the call is served at its time, which is stored.
 use borrow.Author.Needs.{needs}
-use mathlib.Core.Path.{_≡_, sym, ap, _∙_}
-use mathlib.Core.Bool.{Bool}
-use native.Mathlib.Omega.{arith}
-use lib.ListN.{length}
+use Prim.Native.Nat.{ℕ}
+use mathlib.Core.Path.{_≡_, _∙_}
+use mathlib.Core.List.{List}
 use Rattle.octets.specs.Lists.{Bytes}
-use Rattle.token_store.specs.Layout.{storeSize, handleSize}
-use Rattle.protocol.specs.declared.Decision.{Decision}
-use Rattle.protocol.specs.declared.Decision.the-variants.{Grant}
-use Rattle.protocol.specs.Outcomes.{unfitBuffers, admit}
-use Rattle.admission.proofs.Admitting.{Admitted, admitted, store-size, time-early}
-use Rattle.authorization_endpoint.proofs.Serving.{buffers, buffers-fit, outcome-refused, outcome-served}
+use Rattle.protocol.specs.Limits.{codeRandom}
+use Rattle.protocol.specs.declared.AuthorizationAnswer.{AuthorizationAnswer}
+use Rattle.protocol.specs.Outcomes.{Handed, Endpoint, authorizationEndpoint}
+use Rattle.admission.specs.declared.Admission.{Admission}
+use Rattle.admission.specs.declared.Admission.the-variants.{At}
+use Rattle.admission.proofs.Admitting.{Enters, Sized, fit-buffers, entered-admitted, entered-ready, outcome-refused, outcome-served}
 use Rattle.authorization_endpoint.proofs.authorize.Statement.{statement}
 use Rattle.authorization_endpoint.proofs.authorize.Tie as tie
 
-abbrev entry : tie.After-admit → tie.Start
-entry c = c .before .before .before .before .before .before .before
+abbrev entry : tie.After-slice-known2 → tie.Start
+entry c = c .before .before .before .before .before
 
--- what is unfit of the buffers, and what admission says of the whole
-abbrev unfit : tie.Start → Bool
-unfit s = unfitBuffers handleSize (s .args .random .now) (s .args .output .now)
+abbrev start : tie.After-enter → tie.Start
+start c = entry (c .before .before .before .before)
 
-abbrev verdict : tie.Start → Decision
-verdict s = admit (unfit s) (s .args .registry .now) (s .args .store .now) (s .args .clock)
+-- what the call is handed, its endpoint, and the store at its time
+abbrev handed : tie.Start → Handed
+handed s = let a = s .args in record { clock = a .clock; random = a .random .now; output = a .output .now }
 
-judged : (c : tie.After-admit) → c .admit .result ≡ verdict (entry c)
-judged c =
-    let a = entry c .args in
-    c .admit .ensures
-    ∙ ap (λ (q : Bool). admit q (a .registry .now) (a .store .now) (a .clock)) (buffers (a .random .now) (a .output .now))
+abbrev endpoint : tie.Start → Endpoint AuthorizationAnswer
+endpoint s = let a = s .args in authorizationEndpoint (a .query .now) (a .decision) (a .farm)
 
-passed : (c : tie.After-enum-told) → Grant ≡ verdict (entry (c .before .before))
-passed c = sym (c .enum-told .given .1) ∙ judged (c .before .before)
+abbrev begun : tie.After-enter → List ℕ
+begun c = c .enter .last .1 .1 .0
 
-past : (c : tie.After-enum-told) → let s = entry (c .before .before) in Admitted (unfit s) (s .args .registry .now) (s .args .store .now) (s .args .clock)
-past c = admitted _ _ _ _ (passed c)
+abbrev Came : tie.After-enter → Admission → Type 0
+Came c r = let s = start c in Enters (endpoint s) (s .args .registry .now) (s .args .store .now) (handed s) (begun c) r
 
-returns : tie.Need-returns
-returns c =
-    let a = entry (c .before .before .before) .args in
-    outcome-refused (a .query .now) (a .decision) (a .farm) (a .registry .now) (a .store .now) (a .clock) (a .random .now) (a .output .now)
-    _ (sym (c .before .admitted .given .1) ∙ judged (c .before .before .before))
+came : (c : tie.After-enter) (r : Admission) → c .enter .result ≡ r → Came c r
+came c r e = let entered = c .enter .ensures in rw (e, c .before .before .unfit-buffers .ensures) at entered
 
-begin-requires : tie.Need-begin-requires
-begin-requires c κs = store-size (past (c .before))
+-- the call is let in
+abbrev into : tie.After-t → tie.After-enter
+into c = c .before .before .before .before
+
+let-in : (c : tie.After-t) → Came (into c) (At (c .t .given .0 .0))
+let-in c = came (into c) (At (c .t .given .0 .0)) (c .t .given .1)
+
+sizes : (c : tie.After-t) → let a = start (into c) .args in Sized codeRandom (a .random .now) (a .output .now)
+sizes c = fit-buffers _ _ _ (entered-admitted (let-in c) .buffers)
 
 serve-requires : tie.Need-serve-requires
 serve-requires c κs =
-    let begun = c .before .before .before .before in
-    let told = begun .before .before in
-    let a = entry (told .before .before) .args in
-    let fit = buffers-fit (a .random .now) (a .output .now) (past told .buffers) in (
-      past told .registry-fit,
-      begun .begin .kept .0 ∙ store-size (past told),
-      omega (arith, begun .begin .ensures .0, time-early (past told), past told .early),
-      fit .size,
-      fit .room,
-    )
+    let at = c .before .before .before in
+    (entered-ready (let-in at) (into at .enter .kept .1 .1 .0), sizes at .exact, sizes at .room)
+
+returns : tie.Need-returns
+returns c =
+    let at = c .before .before .before .before .before in
+    let s = start at in
+    outcome-refused (endpoint s) (s .args .registry .now) (s .args .store .now) (handed s) _ (begun at) (came at _ (c .before .refusal .given .1))
 
 returns-2 : tie.Need-returns-2
 returns-2 c =
     let served = c .before .before .before .before in
-    let begun = served .before .before .before .before .before in
-    let told = begun .before .before in
-    let a = entry (told .before .before) .args in
-    let b = begun .begin in
-    let s = served .serve in
-    let after = s .last .1 .1 .1 .1 .0 in
-    let size : length after ≡ storeSize = s .kept .1 .1 .1 .1 .0 ∙ b .kept .0 ∙ store-size (past told) in
-    let bytes : Bytes after = λ k. c .before .before .slice-known4 .given k .fits in
-    outcome-served (a .query .now) (a .decision) (a .farm) (a .registry .now) (a .store .now) (a .clock) (a .random .now) (a .output .now)
-    (passed told) (b .result) (b .ensures .0) (b .last .0) (b .ensures .1) after _ (s .result) (s .ensures) size bytes
+    let at = served .before .before .before .before in
+    let s = start (into at) in
+    let bytes : Bytes (served .serve .last .1 .1 .1 .1 .0) = λ k. c .before .before .slice-known4 .given k .fits in
+    let size = served .serve .kept .1 .1 .1 .1 .0 ∙ entered-ready (let-in at) (into at .enter .kept .1 .1 .0) .size in
+    outcome-served (endpoint s) (s .args .registry .now) (s .args .store .now) (handed s) (let-in at)
+    (served .serve .result) _ (served .serve .ensures) size bytes
 
 pub authorize-spec : {M : Type 1} → statement M
 authorize-spec =
     tie.close
     (tie.spec
     (λ c κs. search needs)
+    (λ c κs. search needs)
+    (λ c. search needs)
+    (λ c. search needs)
+    serve-requires
     (λ c. search needs)
     (λ c. search needs)
     returns
-    (λ c. search needs)
-    begin-requires
-    serve-requires
     (λ c. search needs)
     (λ c. search needs)
     returns-2)

@@ -1,44 +1,57 @@
--- An error page is answered at once; the query of a known client is answered on the store.
+-- The query is read: an error page writes nothing and leaves the slots, and the query of a client is answered.
 use borrow.Author.Needs.{needs}
-use mathlib.Core.Path.{_≡_, sym, _∙_}
-use Rattle.authorization_query.specs.declared.QueryReading.the-variants.{FromClient}
-use Rattle.authorization_query.specs.Reading.{readQuery}
-use Rattle.authorization_query.proofs.Reading.{known, page-reading, client-reading}
-use Rattle.authorization_endpoint.proofs.Serving.{served-page}
+use mathlib.Core.Path.{_≡_, sym, ap, _∙_}
+use Rattle.client_registry.specs.Registry.{clientsOf}
+use Rattle.token_store.specs.Store.{decode}
+use Rattle.protocol.specs.declared.Reading.{Reading}
+use Rattle.protocol.specs.Authorization.{readAuthorization}
+use Rattle.authorization_query.specs.declared.QueryReading.{QueryReading}
+use Rattle.authorization_query.specs.Reading.{readingOf}
+use Rattle.authorization_endpoint.proofs.Locations.{query-random, reading-served, page-served}
 use Rattle.authorization_endpoint.proofs.serve.Statement.{statement}
 use Rattle.authorization_endpoint.proofs.serve.Tie as tie
 
-abbrev entry : tie.After-asking → tie.Start
-entry c = c .before .before .before .before .before .before .before .before
+abbrev entry : tie.After-slice-known2 → tie.Start
+entry c = c .before .before .before .before .before
 
--- what was read is the query of this client
-read : (c : tie.After-asking)
-    → let a = entry c .args in readQuery (a .registry .now) (a .query .now) (a .decision) (a .farm) ≡ FromClient (c .asking .given .0 .0)
-read c = sym (c .before .before .read-query .ensures) ∙ c .asking .given .1
+abbrev start : tie.After-read-query → tie.Start
+start c = entry (c .before)
+
+-- the query is read so
+read : (c : tie.After-read-query) (r : QueryReading) → c .read-query .result ≡ r
+    → let a = start c .args in readingOf r ≡ readAuthorization (clientsOf (a .registry .now)) (a .query .now) (a .decision) (a .farm)
+read c r e = ap readingOf (sym e) ∙ c .read-query .ensures .reading
 
 answer-requires : tie.Need-answer-requires
 answer-requires c κs =
-    let asked = c .before .before .before in
-    let start = entry asked in
-    let a = start .args in
-    let p = start .pre in
-    let k = known (a .registry .now) (a .query .now) (a .decision) (a .farm) (p .0) (asked .asking .given .0 .0) (read asked) in
-    (p .0, k, p .1, p .2, p .3, p .4)
+    let asking = c .before .before .before in
+    let at = asking .before .before in
+    let s = start at in
+    let a = s .args in
+    let asked = query-random (clientsOf (a .registry .now)) (a .query .now) (a .decision) (a .farm) in (
+      s .pre .0,
+      at .read-query .ensures .known (asking .asking .given .0 .0) (asking .asking .given .1),
+      rw (← ap (λ (r : Reading). r .request) (read at _ (asking .asking .given .1))) at asked,
+      s .pre .1,
+      s .pre .2,
+    )
 
 returns : tie.Need-returns
 returns c =
-    let a = c .before .before .before .before .before .before .before .before .before .args in
-    let cause = c .before .cause .given .0 .0 in
-    served-page (a .t) (a .registry .now) (a .query .now) (a .random .now) (a .store .now) (a .output .now) cause _
-    (page-reading (a .registry .now) (a .query .now) (a .decision) (a .farm) cause (sym (c .before .before .before .read-query .ensures) ∙ c .before .cause .given .1))
+    let at = c .before .before .before in
+    let a = start at .args in
+    let clients = clientsOf (a .registry .now) in
+    reading-served clients (a .query .now) (a .decision) (a .farm) (a .t) (a .random .now) _ (read at _ (c .before .cause .given .1))
+    (page-served clients (a .query .now) (a .t) (a .random .now) (decode (a .store .now)) _ (a .output .now))
 
 returns-2 : tie.Need-returns-2
 returns-2 c =
     let answered = c .before .before .before .before in
-    let asked = answered .before .before .before .before in
-    let a = entry asked .args in
-    let e = client-reading (a .registry .now) (a .query .now) (a .decision) (a .farm) (asked .asking .given .0 .0) (read asked) in
-    rw (← e) (answered .answer .ensures)
+    let asking = answered .before .before .before .before in
+    let at = asking .before .before in
+    let a = start at .args in
+    reading-served (clientsOf (a .registry .now)) (a .query .now) (a .decision) (a .farm) (a .t) (a .random .now) _
+    (read at _ (asking .asking .given .1)) (answered .answer .ensures)
 
 pub serve-spec : {M : Type 1} → statement M
 serve-spec =

@@ -1,90 +1,120 @@
--- One test after the other, in the order of the definition; each answer has its law.
+-- One test after the other, in the order of the reasons to refuse: the first that applies is answered.
 use borrow.Author.Needs.{needs}
-use borrow.Author.Tests.{not-true, not-false}
+use borrow.Author.Tests.{eq-eqb, ne-eqb}
 use mathlib.Core.Path.{_≡_, sym, ap, _∙_}
-use mathlib.Core.Bool.{Bool, true, false}
+use mathlib.Core.Bool.{false, not}
+use mathlib.Core.List.{List, [], _∷_}
+use lib.Dec.{eqb, lit<}
+use Prim.Native.Nat.{ℕ}
 use Rattle.octets.specs.Text.{bytes}
-use Rattle.form.specs.Content.{formValue}
+use Rattle.form.specs.Content.{formValue, isMissing, isOnce}
+use Rattle.client_registry.specs.Registry.{Client, clientsOf}
+use Rattle.client_registry.specs.Lookup.{clientAt}
+use Rattle.protocol.specs.declared.Decision.{Decision}
+use Rattle.protocol.specs.declared.ErrorWord.the-variants.{AccessDenied}
+use Rattle.protocol.specs.declared.Refusal.the-variants.{Redirect}
+use Rattle.protocol.specs.declared.Request.the-variants.{Code}
 use Rattle.protocol.specs.declared.ScopeAsked.{ScopeAsked}
-use Rattle.protocol.specs.Requests.{isOnce, scopeAsked, fits}
-use Rattle.protocol.specs.Authorization.{isInvalidRequest}
-use Rattle.authorization_query.proofs.Names.{good-short, place-within, type-said, redirect-said, scope-said}
-use Rattle.authorization_query.proofs.Reading.{ask-invalid, ask-other, ask-scope, ask-denied, ask-allowed}
+use Rattle.protocol.specs.Refusals.{when}
+use Rattle.protocol.specs.Requests.{scopeAsked, fits, scopeGiven}
+use Rattle.protocol.specs.Authorization.{isInvalidRequest, isOtherType, isInvalidScope, redirectReasons}
+use Rattle.protocol.proofs.Reasons.{First, none, stop, pass}
+use Rattle.authorization_query.specs.Reading.{clientNamed}
+use Rattle.authorization_query.proofs.Reasons.{asked-by, code-is}
 use Rattle.authorization_query.proofs.ask.Statement.{statement}
 use Rattle.authorization_query.proofs.ask.Tie as tie
 
-abbrev entry : tie.Else1 → tie.Start
-entry c = c .before .before .before
+-- ---- places
 
--- whether the response type is `code`, and the scope that is asked for
-abbrev isCode : tie.Start → Bool
-isCode s = isOnce (bytes "code") (formValue (s .args .query .now) (bytes "response_type"))
+abbrev start : tie.Else1 → tie.Start
+start c = c .before .before .before .before
+
+abbrev sound : tie.After-is-once → tie.Else1
+sound c = c .before .before .before
+
+abbrev typed : tie.After-scope-asked → tie.Else2
+typed c = c .before .before
+
+abbrev asking : tie.After-scope-asked → tie.Start
+asking c = start (sound (typed c .before))
+
+abbrev queryIn : tie.Start → List ℕ
+queryIn s = s .args .query .now
+
+abbrev clientIn : tie.Start → Client
+clientIn s = clientNamed (clientsOf (s .args .registry .now)) (queryIn s)
 
 abbrev scopeIn : tie.Start → ScopeAsked
-scopeIn s = scopeAsked (formValue (s .args .query .now) (bytes "scope"))
+scopeIn s = scopeAsked (formValue (queryIn s) (bytes "scope"))
 
-valid : (c : tie.Else1) → isInvalidRequest (entry c .args .query .now) ≡ false
+-- ---- the tests
+
+valid : (c : tie.Else1) → isInvalidRequest (queryIn (start c)) ≡ false
 valid c = sym (c .before .is-invalid-request .ensures) ∙ c .if1 .left
 
-once : (c : tie.After-is-once) → isCode (entry (c .before .before .before)) ≡ c .is-once .result
-once c = ap (isOnce (bytes "code")) (sym (type-said _ _ (entry (c .before .before .before) .pre))) ∙ sym (c .is-once .ensures)
+other : (c : tie.After-is-once) → isOtherType (queryIn (start (sound c))) ≡ not (c .is-once .result)
+unfolding isOtherType
+other c =
+    let said = start (sound c) .pre .2 .stands .at 0 (lit< tt) .value in
+    ap not (ap (isOnce (bytes "code")) (sym said) ∙ sym (c .is-once .ensures))
 
-code : (c : tie.Else2) → isCode (entry (c .before .before .before .before)) ≡ true
-code c = once (c .before) ∙ not-false _ (c .if2 .left)
+asked : (c : tie.After-scope-asked) → c .scope-asked .result ≡ scopeIn (asking c)
+asked c = c .scope-asked .ensures ∙ ap scopeAsked (asking c .pre .2 .stands .at 3 (lit< tt) .value)
 
-asked : (c : tie.After-scope-asked) → c .scope-asked .result ≡ scopeIn (entry (c .before .before .before .before .before .before))
-asked c = c .scope-asked .ensures ∙ ap scopeAsked (scope-said _ _ (entry (c .before .before .before .before .before .before) .pre))
+held : (c : tie.After-scope-set) → c .scope-set .result ≡ clientIn (asking (c .before)) .scope
+held c =
+    let s = asking (c .before) in
+    c .scope-set .ensures ∙ ap (λ (n : ℕ). clientAt (clientsOf (s .args .registry .now)) n .scope) (s .pre .1 .number)
 
-fitting : (c : tie.After-scope-fits) → let s = entry (c .before .before .before .before .before .before .before) in fits (scopeIn s) (s .args .held) ≡ c .scope-fits .result
-fitting c =
-    let held = entry (c .before .before .before .before .before .before .before) .args .held in
-    ap (λ (s : ScopeAsked). fits s held) (sym (asked (c .before))) ∙ sym (c .scope-fits .ensures)
+beyond : (c : tie.After-scope-fits) → let s = asking (c .before .before) in isInvalidScope (clientIn s) (queryIn s) ≡ not (c .scope-fits .result)
+unfolding isInvalidScope
+beyond c =
+    let got = ap (λ (a : ScopeAsked). fits a (c .before .scope-set .result)) (asked (c .before .before)) in
+    ap not (sym (c .scope-fits .ensures ∙ got ∙ ap (fits _) (held (c .before))))
 
-within : (c : tie.Else3) → let s = entry (c .before .before .before .before .before .before .before .before) in fits (scopeIn s) (s .args .held) ≡ true
-within c = fitting (c .before) ∙ not-false _ (c .if3 .left)
+-- ---- the answers
 
 returns : tie.Need-returns
-returns c =
-    let a = c .before .before .before .args in
-    ask-invalid (a .held) (a .query .now) (a .decision) (a .farm) (sym (c .before .is-invalid-request .ensures) ∙ c .if1 .taken)
-
-is-once-requires : tie.Need-is-once-requires
-is-once-requires c κs = place-within _ _ (c .before .before .before .before .before .pre) 0
+unfolding redirectReasons
+returns c = asked-by _ _ _ _ (stop (sym (c .before .is-invalid-request .ensures) ∙ c .if1 .taken))
 
 returns-2 : tie.Need-returns-2
-returns-2 c =
-    let sound = c .before .before .before .before in
-    let a = entry sound .args in
-    ask-other (a .held) (a .query .now) (a .decision) (a .farm) (valid sound) (once (c .before) ∙ not-true _ (c .if2 .taken))
-
-scope-asked-requires : tie.Need-scope-asked-requires
-scope-asked-requires c κs = let r = c .before .before .before .before .before .before .before .before .pre in (place-within _ _ r 3, good-short _ (r .good))
+unfolding redirectReasons
+returns-2 c = asked-by _ _ _ _ (pass (valid (sound (c .before))) (stop (other (c .before) ∙ c .if2 .taken)))
 
 returns-3 : tie.Need-returns-3
+unfolding redirectReasons
 returns-3 c =
-    let typed = c .before .before .before .before in
-    let sound = typed .before .before .before .before in
-    let a = entry sound .args in
-    ask-scope (a .held) (a .query .now) (a .decision) (a .farm) (valid sound) (code typed) (fitting (c .before) ∙ not-true _ (c .if3 .taken))
+    let code = typed (c .before .before .before) in
+    asked-by _ _ _ _ (pass (valid (sound (code .before))) (pass (other (code .before) ∙ code .if2 .left) (stop (beyond (c .before) ∙ c .if3 .taken))))
+
+-- past the first three reasons the decision is left
+decided : (c : tie.Else3) {d : Decision}
+    → let s = asking (c .before .before .before) in First (when (not (eqb (s .args .decision) 1)) (Redirect AccessDenied) ∷ []) d
+    → First (redirectReasons (clientIn s) (queryIn s) (s .args .decision)) d
+unfolding redirectReasons
+decided c f =
+    let code = typed (c .before .before .before) in
+    pass (valid (sound (code .before))) (pass (other (code .before) ∙ code .if2 .left) (pass (beyond (c .before) ∙ c .if3 .left) f))
 
 returns-4 : tie.Need-returns-4
-returns-4 c =
-    let fitted = c .before in
-    let typed = fitted .before .before .before .before in
-    let sound = typed .before .before .before .before in
-    let a = entry sound .args in
-    ask-denied (a .held) (a .query .now) (a .decision) (a .farm) (valid sound) (code typed) (within fitted) (c .if4 .taken)
+returns-4 c = asked-by _ _ _ _ (decided (c .before) (stop (ap not (ne-eqb _ 1 (c .if4 .taken)))))
+
+abbrev looked : tie.After-scope-given → tie.After-scope-set
+looked c = c .before .before .before .before .before
+
+given : (c : tie.After-scope-given) → let s = asking (looked c .before) in c .scope-given .result ≡ scopeGiven (scopeIn s) (clientIn s .scope)
+given c =
+    let got = ap (λ (a : ScopeAsked). scopeGiven a (looked c .scope-set .result)) (asked (looked c .before)) in
+    c .scope-given .ensures ∙ got ∙ ap (scopeGiven _) (held (looked c))
 
 returns-5 : tie.Need-returns-5
 returns-5 c =
     let allowed = c .before .before .before in
-    let fitted = allowed .before in
-    let typed = fitted .before .before .before .before in
-    let sound = typed .before .before .before .before in
-    let start = entry sound in
-    let a = start .args in
-    rw (c .before .scope-given .ensures, asked (fitted .before .before), c .is-missing .ensures, redirect-said _ _ (start .pre))
-    (ask-allowed (a .held) (a .query .now) (a .decision) (a .farm) (valid sound) (code typed) (within fitted) (allowed .if4 .left))
+    let s = asking (looked (c .before) .before) in
+    let bound = c .is-missing .ensures ∙ ap isMissing (s .pre .2 .stands .at 2 (lit< tt) .value) in
+    ap Code (code-is (clientsOf (s .args .registry .now)) (queryIn s) (s .args .farm) (s .pre .1 .number) (given (c .before)) bound)
+    ∙ asked-by _ _ _ _ (decided (allowed .before) (pass (ap not (eq-eqb _ 1 (allowed .if4 .left))) none))
 
 pub ask-spec : {M : Type 1} → statement M
 ask-spec =
@@ -94,10 +124,11 @@ ask-spec =
     returns
     (λ c. search needs)
     (λ c. search needs)
-    is-once-requires
+    (λ c κs. start (c .before .before) .pre .2 .stands .at 0 (lit< tt) .within)
     returns-2
     (λ c. search needs)
-    scope-asked-requires
+    (λ c κs. let r = start (sound (c .before .before)) .pre .2 in (r .stands .at 3 (lit< tt) .within, r .short))
+    (λ c κs. search needs)
     (λ c κs. search needs)
     returns-3
     returns-4

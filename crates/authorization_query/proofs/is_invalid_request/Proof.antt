@@ -1,20 +1,23 @@
 -- The four tests are those of the definition, at the names' places.
 use borrow.Author.Needs.{needs}
+use lib.Dec.{lit<}
 use Rattle.protocol.specs.Authorization.{isInvalidRequest}
-use Rattle.authorization_query.proofs.Names.{good-short, place-within, type-said, scope-said, state-said}
 use Rattle.authorization_query.proofs.is_invalid_request.Statement.{statement}
 use Rattle.authorization_query.proofs.is_invalid_request.Tie as tie
 
+abbrev start : tie.After-is-missing → tie.Start
+start c = c .before .before .before .before .before
+
 is-bad-state-requires : tie.Need-is-bad-state-requires
-is-bad-state-requires c κs = let r = c .before .before .before .before .before .before .before .pre in (place-within _ _ r 4, good-short _ (r .good))
+is-bad-state-requires c κs = let r = start (c .before .before) .pre in (r .stands .at 4 (lit< tt) .within, r .short)
 
 returns : tie.Need-returns
 unfolding isInvalidRequest
 returns c =
-    let at-missing = c .before .before .before in
-    let r = at-missing .before .before .before .before .before .pre in
-    rw (at-missing .is-missing .ensures, c .before .before .is-repeated .ensures, c .before .is-repeated2 .ensures, c .is-bad-state .ensures)
-    (rw (type-said _ _ r, scope-said _ _ r, state-said _ _ r))
+    let missing = c .before .before .before in
+    let stands = start missing .pre .stands in
+    rw (missing .is-missing .ensures, c .before .before .is-repeated .ensures, c .before .is-repeated2 .ensures, c .is-bad-state .ensures)
+    (rw (stands .at 0 (lit< tt) .value, stands .at 3 (lit< tt) .value, stands .at 4 (lit< tt) .value))
 
 pub is-invalid-request-spec : {M : Type 1} → statement M
 is-invalid-request-spec =

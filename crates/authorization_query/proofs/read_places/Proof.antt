@@ -1,101 +1,114 @@
--- The client is looked up first; each answer of the reader has its law.
+-- The client is looked up first, then the redirect address is compared: the first of refusals 6 and 7 that applies is
+-- answered. Past them the answer is what the client's query asks.
 use borrow.Author.Needs.{needs}
-use Prim.Native.Nat.{ℕ}
 use mathlib.Core.Path.{_≡_, sym, ap, _∙_}
-use mathlib.Core.Bool.{not, _&&_}
+use mathlib.Core.Bool.{false}
 use mathlib.Core.List.{List}
-use Rattle.octets.specs.Text.{bytes}
-use Rattle.form.specs.Content.{Value, formValue}
-use Rattle.client_registry.specs.Registry.{clientsOf}
-use Rattle.client_registry.specs.Lookup.{clientAt, findClient, IsEntry}
+use lib.Dec.{lit<}
+use Prim.Native.Nat.{ℕ}
+use Rattle.form.specs.Content.{Value, isRepeated, onlyValue}
+use Rattle.client_registry.specs.Registry.{Client, clientsOf}
+use Rattle.client_registry.specs.Lookup.{clientAt, findClient}
 use Rattle.client_registry.specs.declared.FoundClient.the-variants.{At}
-use Rattle.client_registry.proofs.Lookup.{find-at}
-use Rattle.protocol.specs.Requests.{isMissing, isRepeated, valueOf, isOnce}
-use Rattle.authorization_query.proofs.Names.{good-short, place-within, client-said, redirect-said}
-use Rattle.authorization_query.proofs.Reading.{read-unknown, read-repeated, read-other, read-known}
+use Rattle.protocol.specs.Authorization.{isBadClient, isBadRedirect, pageReasons}
+use Rattle.protocol.proofs.Reasons.{stop, pass}
+use Rattle.authorization_query.specs.Reading.{Named, clientNamed}
+use Rattle.authorization_query.proofs.Reasons.{idIn, redirectIn, good-query, unknown-client, repeated-redirect, good-client, named, read-page, read-client}
 use Rattle.authorization_query.proofs.read_places.Statement.{statement}
 use Rattle.authorization_query.proofs.read_places.Tie as tie
 
-abbrev entry : tie.After-client-named → tie.Start
-entry c = c .before .before .before .before
+-- ---- places
 
--- what the query says of client_id and redirect_uri
-abbrev idIn : tie.Start → List ℕ
-idIn s = valueOf (formValue (s .args .query .now) (bytes "client_id"))
+abbrev start : tie.After-client-named → tie.Start
+start c = c .before .before .before .before
 
-abbrev redirectIn : tie.Start → Value
-redirectIn s = formValue (s .args .query .now) (bytes "redirect_uri")
+abbrev found : tie.After-is-repeated → tie.After-client
+found c = c .before .before .before
 
--- the client that client_id names
-named : (c : tie.After-client-named) → let s = entry c in c .client-named .result ≡ findClient (s .args .registry .now) (idIn s)
-named c =
-    let s = entry c in
-    c .client-named .ensures ∙ ap (λ (v : Value). findClient (s .args .registry .now) (valueOf v)) (client-said _ _ (s .pre .1))
+abbrev asking : tie.After-client → tie.Start
+asking c = start (c .before .before)
 
-found : (c : tie.After-client) → let s = entry (c .before .before) in findClient (s .args .registry .now) (idIn s) ≡ At (c .client .given .0 .0)
-found c = sym (named (c .before .before)) ∙ c .client .given .1
+abbrev registryIn : tie.Start → List ℕ
+registryIn s = s .args .registry .now
 
-is-entry : (c : tie.After-client) → IsEntry (entry (c .before .before) .args .registry .now) (c .client .given .0 .0)
-is-entry c =
-    let s = entry (c .before .before) in
-    find-at (s .args .registry .now) _ (s .pre .0) (c .client .given .0 .0) (found c) .entry
+abbrev queryIn : tie.Start → List ℕ
+queryIn s = s .args .query .now
 
--- whether redirect_uri is repeated, and whether it is another than the registered one
-repeated : (c : tie.After-is-repeated) → isRepeated (redirectIn (entry (c .before .before .before .before .before))) ≡ c .is-repeated .result
-repeated c = ap isRepeated (sym (redirect-said _ _ (entry (c .before .before .before .before .before) .pre .1))) ∙ sym (c .is-repeated .ensures)
+abbrev clientsIn : tie.Start → List Client
+clientsIn s = clientsOf (registryIn s)
 
-other : (c : tie.After-is-other-redirect)
-    → let client = c .before .before .before .before .before .before in
-    let s = entry (client .before .before) in
-    let registered = clientAt (clientsOf (s .args .registry .now)) (client .client .given .0 .0 .number) .redirect in
-    (not (isMissing (redirectIn s)) && not (isOnce registered (redirectIn s))) ≡ c .is-other-redirect .result
+-- ---- the tests
+
+sought : (c : tie.After-client-named) → c .client-named .result ≡ findClient (registryIn (start c)) (onlyValue (idIn (queryIn (start c))))
+sought c =
+    let said = start c .pre .1 .stands .at 1 (lit< tt) .value in
+    c .client-named .ensures ∙ ap (λ (v : Value). findClient (registryIn (start c)) (onlyValue v)) said
+
+is-at : (c : tie.After-client) → findClient (registryIn (asking c)) (onlyValue (idIn (queryIn (asking c)))) ≡ At (c .client .given .0 .0)
+is-at c = sym (sought (c .before .before)) ∙ c .client .given .1
+
+its : (c : tie.After-client) → Named (registryIn (asking c)) (queryIn (asking c)) (c .client .given .0 .0)
+its c = named (registryIn (asking c)) (queryIn (asking c)) (asking c .pre .0) _ (is-at c)
+
+twice : (c : tie.After-is-repeated) → isRepeated (redirectIn (queryIn (asking (found c)))) ≡ c .is-repeated .result
+twice c = ap isRepeated (sym (asking (found c) .pre .1 .stands .at 2 (lit< tt) .value)) ∙ sym (c .is-repeated .ensures)
+
+once : (c : tie.Else1) → let s = asking (found (c .before)) in isBadClient (clientsIn s) (queryIn s) ≡ false
+once c =
+    let s = asking (found (c .before)) in
+    good-client (registryIn s) (queryIn s) (s .pre .0) _ (is-at (found (c .before))) (twice (c .before) ∙ c .if1 .left)
+
+other : (c : tie.After-is-bad-redirect)
+    → let s = asking (found (c .before .before)) in isBadRedirect (clientNamed (clientsIn s) (queryIn s)) (queryIn s) ≡ c .is-bad-redirect .result
 other c =
-    let s = entry (c .before .before .before .before .before .before .before .before) in
-    rw (← redirect-said _ _ (s .pre .1), ← c .before .redirect2 .ensures) (sym (c .is-other-redirect .ensures))
+    let client = found (c .before .before) in
+    let s = asking client in
+    ap (λ (n : ℕ). isBadRedirect (clientAt (clientsIn s) n) (queryIn s)) (sym (its client .number)) ∙ sym (c .is-bad-redirect .ensures)
+
+-- ---- the answers
 
 client-named-requires : tie.Need-client-named-requires
-client-named-requires c κs = let start = c .before .before .before in (start .pre .0, place-within _ _ (start .pre .1) 1, good-short _ (start .pre .1 .good))
+client-named-requires c κs = let s = c .before .before .before in (s .pre .0, s .pre .1 .stands .at 1 (lit< tt) .within, s .pre .1 .short)
 
 returns : tie.Need-returns
+unfolding pageReasons
 returns c =
-    let start = c .before .before .before .before .before .before in
-    let a = start .args in
-    read-unknown (a .registry .now) (a .query .now) (a .decision) (a .farm) (start .pre .1 .good) (sym (named (c .before .before)) ∙ c .enum-told .given .1)
+    let named = c .before .before in
+    let s = start named in
+    let refused = unknown-client (registryIn s) (queryIn s) (sym (sought named) ∙ c .enum-told .given .1) in
+    read-page (registryIn s) (queryIn s) _ _ _ (pass (good-query _ _ (s .pre .1)) (stop refused))
 
 returns-2 : tie.Need-returns-2
+unfolding pageReasons
 returns-2 c =
-    let start = c .before .before .before .before .before .before .before .before .before .before in
-    let a = start .args in
-    read-repeated (a .registry .now) (a .query .now) (a .decision) (a .farm) (start .pre .1 .good) (repeated (c .before) ∙ c .if1 .taken)
+    let s = asking (found (c .before)) in
+    let refused = repeated-redirect (registryIn s) (queryIn s) (twice (c .before) ∙ c .if1 .taken) in
+    read-page (registryIn s) (queryIn s) _ _ _ (pass (good-query _ _ (s .pre .1)) (stop refused))
 
-redirect-requires : tie.Need-redirect-requires
-redirect-requires c κs = (c .before .before .before .before .before .before .before .before .before .before .pre .0, is-entry (c .before .before .before .before))
-
-is-other-redirect-requires : tie.Need-is-other-redirect-requires
-is-other-redirect-requires c κs = place-within _ _ (c .before .before .before .before .before .before .before .before .before .before .before .pre .1) 2
+is-bad-redirect-requires : tie.Need-is-bad-redirect-requires
+is-bad-redirect-requires c κs = let client = found (c .before) in (asking client .pre .0, its client .entry, asking client .pre .1)
 
 returns-3 : tie.Need-returns-3
+unfolding pageReasons
 returns-3 c =
-    let single = c .before .before .before in
-    let client = single .before .before .before .before in
-    let start = entry (client .before .before) in
-    let a = start .args in
-    read-other (a .registry .now) (a .query .now) (a .decision) (a .farm) (start .pre .1 .good) (start .pre .0) (client .client .given .0 .0)
-    (found client) (repeated (single .before) ∙ single .if1 .left) (other (c .before) ∙ c .if2 .taken)
+    let past = c .before .before in
+    let s = asking (found (past .before)) in
+    read-page (registryIn s) (queryIn s) _ _ _ (pass (good-query _ _ (s .pre .1)) (pass (once past) (stop (other (c .before) ∙ c .if2 .taken))))
 
-scope-set-requires : tie.Need-scope-set-requires
-scope-set-requires c κs = let client = c .before .before .before .before .before .before .before in (entry (client .before .before) .pre .0, is-entry client)
+ask-requires : tie.Need-ask-requires
+ask-requires c κs = let client = found (c .before .before .before) in (asking client .pre .0, its client, asking client .pre .1)
 
 returns-4 : tie.Need-returns-4
 returns-4 c =
-    let agreed = c .before .before .before in
-    let single = agreed .before .before .before in
-    let client = single .before .before .before .before in
-    let start = entry (client .before .before) in
-    let a = start .args in
-    rw (c .before .ask .ensures, c .before .before .scope-set .ensures, start .pre .1 .found)
-    (read-known (a .registry .now) (a .query .now) (a .decision) (a .farm) (start .pre .1 .good) (start .pre .0) (client .client .given .0 .0)
-    (found client) (repeated (single .before) ∙ single .if1 .left) (other (agreed .before) ∙ agreed .if2 .left))
+    let agreed = c .before .before in
+    let past = agreed .before .before in
+    let client = found (past .before) in
+    let s = asking client in
+    let state = s .pre .1 .stands .at 4 (lit< tt) in
+    read-client (registryIn s) (queryIn s) _ _ _ (good-query _ _ (s .pre .1)) (once past)
+    (other (agreed .before) ∙ agreed .if2 .left)
+    (c .before .ask .ensures)
+    (record { entry = its client .entry; number = its client .number; short = s .pre .1 .short; within = state .within; state = state .value })
 
 pub read-places-spec : {M : Type 1} → statement M
 read-places-spec =
@@ -109,10 +122,8 @@ read-places-spec =
     (λ c. search needs)
     (λ c κs. search needs)
     returns-2
-    redirect-requires
-    is-other-redirect-requires
+    is-bad-redirect-requires
     returns-3
-    scope-set-requires
-    (λ c κs. search needs)
+    ask-requires
     (λ c. search needs)
     returns-4)

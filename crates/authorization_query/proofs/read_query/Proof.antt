@@ -1,31 +1,42 @@
--- A query that is too long or malformed is refused; of any other the places are those of its names.
+-- A query that is too long or malformed is refused; in any other the names stand at their places.
 use borrow.Author.Needs.{needs}
-use Rattle.form.proofs.Answers.{told-malformed, told-well-formed}
+use mathlib.Core.Path.{refl}
+use Rattle.octets.specs.Text.{bytes}
+use Rattle.octets.specs.Lists.{every, same, splitOn, grow}
+use Rattle.form.specs.Places.{Known, distinct}
+use Rattle.protocol.specs.Authorization.{pageReasons}
+use Rattle.protocol.proofs.Reasons.{stop}
 use Rattle.authorization_query.specs.Reading.{queryNames}
-use Rattle.authorization_query.proofs.Names.{good-query, found-places}
-use Rattle.authorization_query.proofs.Reading.{read-long, read-malformed}
+use Rattle.authorization_query.proofs.Reasons.{too-long, malformed, read-page}
 use Rattle.authorization_query.proofs.read_query.Statement.{statement}
 use Rattle.authorization_query.proofs.read_query.Tie as tie
 
+names : Known (bytes "response_type&client_id&redirect_uri&scope&state") queryNames
+unfolding distinct every same splitOn grow
+names = record { parted = refl; apart = refl; few = refl }
+
 returns : tie.Need-returns
-returns c = let a = c .before .before .before .args in read-long (a .registry .now) (a .query .now) (a .decision) (a .farm) (c .if1 .taken)
+unfolding pageReasons
+returns c =
+    let a = c .before .before .before .args in
+    read-page (a .registry .now) (a .query .now) _ _ _ (stop (too-long (a .query .now) (c .if1 .taken)))
+
+abbrev start : tie.After-read → tie.Start
+start c = c .before .before .before .before .before
 
 returns-2 : tie.Need-returns-2
+unfolding pageReasons
 returns-2 c =
-    let a = c .before .before .before .before .before .before .before .args in
-    let read = c .before .before .read in
-    read-malformed (a .registry .now) (a .query .now) (a .decision) (a .farm)
-    (told-malformed queryNames (a .query .now) (read .result) (read .ensures .0) (c .enum-told2 .given .1))
+    let read = c .before .before in
+    let a = start read .args in
+    read-page (a .registry .now) (a .query .now) _ _ _
+    (stop (malformed (a .query .now) (read .read .ensures .1 .malformed (c .enum-told2 .given .1))))
 
 read-places-requires : tie.Need-read-places-requires
 read-places-requires c κs =
-    let at-read = c .before .before .before in
-    let short = at-read .before .before in
-    let start = short .before .before .before in
-    let query = start .args .query .now in
-    let r = at-read .read in
-    let formed = told-well-formed queryNames query (r .result) (r .ensures .0) (c .before .enum-told .given .1) in
-    (start .pre, record { good = good-query query (short .if1 .left) formed; found = found-places query (r .result) (r .ensures .0) formed })
+    let read = c .before .before .before in
+    let stands = read .read .ensures .1 .stands (c .before .enum-told .given .1) queryNames names in
+    (start read .pre, record { short = read .before .before .if1 .left; stands = stands })
 
 pub read-query-spec : {M : Type 1} → statement M
 read-query-spec =

@@ -1,14 +1,12 @@
 -- The endpoint's answer in numbers; the store is as the endpoint leaves it.
 use borrow.Author.Needs.{needs}
-use mathlib.Core.Path.{ap, _∙_}
-use Rattle.authorization_server.specs.Numbers.{checkReply}
+use mathlib.Core.Path.{ap}
+use Rattle.authorization_server.specs.Numbers.{checkReply, inNumbers}
 use Rattle.authorization_server.proofs.poplarchime_check.Statement.{statement}
 use Rattle.authorization_server.proofs.poplarchime_check.Tie as tie
 
 returns : tie.Need-returns
-returns c =
-    let checked = c .before .before .before .check .ensures in
-    (c .check-reply .ensures ∙ ap checkReply (checked .0), checked .1)
+returns c = rw (c .check-reply .ensures) (ap (inNumbers checkReply) (c .before .before .before .check .ensures))
 
 pub poplarchime-check-spec : {M : Type 1} → statement M
 poplarchime-check-spec =

@@ -9,11 +9,12 @@ use mathlib.Core.List.{List, []}
 use native.Mathlib.Omega.{arith}
 use lib.ListN.{length, drop, getD}
 use Rattle.client_registry.specs.Layout.{maxClients}
-use Rattle.client_registry.specs.Registry.{soundRecord, recordSize, records}
-use Rattle.client_registry.specs.Lookup.{recordAt}
-use Rattle.client_registry.proofs.Bytes.{part-to}
+use Rattle.client_registry.specs.Registry.{soundRecord, recordSize, records, soundRecords, countIf}
+use Rattle.client_registry.specs.declared.Fitness.the-variants.{Unfit}
+use Rattle.client_registry.specs.Lookup.{recordAt, nextOf}
+use Rattle.octets.proofs.Lists.{part-to}
 use Rattle.client_registry.proofs.Records.{size-least, records-end}
-use Rattle.client_registry.proofs.Walk.{nextOf, soundFrom, sound-next, sound-stop, sound-end, length-step, record-short, count-many, count-unsound, count-none, count-all}
+use Rattle.client_registry.proofs.Walk.{soundFrom, sound-step, sound-end, length-step, record-short, count-many, count-unsound, count-none, count-all}
 use Rattle.client_registry.proofs.count_records.Statement.{statement}
 use Rattle.client_registry.proofs.count_records.Tie as tie
 
@@ -56,17 +57,19 @@ returns c =
     let t = c .before in
     count-many (bytes t) (omega (arith, length-step (bytes t) (place t) (t .loop-test .taken)))
 
+-- a record that is not sound ends the walk
+unsound : (t : tie.In-loop Inv-loop μ-loop) → soundRecord (recordAt (bytes t) (place t)) ≡ false → Unfit ≡ countIf (soundRecords (bytes t)) (bytes t)
+unsound t e = count-unsound (bytes t) (sym (t .before .loop .inv .3) ∙ sound-step (bytes t) (place t) (t .loop-test .taken) ∙ rw e)
+
 returns-2 : tie.Need-returns-2 Inv-loop μ-loop
 returns-2 c =
     let t = sized (c .before) in
-    let short : soundRecord (recordAt (bytes t) (place t)) ≡ false = record-short (bytes t) (place t) (omega (arith, c .before .record-size .ensures)) in
-    count-unsound (bytes t) (sym (t .before .loop .inv .3) ∙ sound-stop (bytes t) (place t) (t .loop-test .taken) short)
+    unsound t (record-short (bytes t) (place t) (omega (arith, c .before .record-size .ensures)))
 
 returns-3 : tie.Need-returns-3 Inv-loop μ-loop
 returns-3 c =
     let t = turn (c .before) in
-    let bad : soundRecord (recordAt (bytes t) (place t)) ≡ false = sym (judged (c .before)) ∙ not-true _ (c .if3 .taken) in
-    count-unsound (bytes t) (sym (t .before .loop .inv .3) ∙ sound-stop (bytes t) (place t) (t .loop-test .taken) bad)
+    unsound t (sym (judged (c .before)) ∙ not-true _ (c .if3 .taken))
 
 loop-less : tie.Need-loop-less Inv-loop μ-loop
 loop-less c =
@@ -85,7 +88,7 @@ loop-again c =
       search needs,
       search needs,
       omega (arith, length-step b at (t .loop-test .taken), ap (λ (p : ℕ). length (records (drop p b))) next),
-      ap (soundFrom b) next ∙ sym (sound-next b at (t .loop-test .taken) good) ∙ t .before .loop .inv .3,
+      ap (soundFrom b) next ∙ sym (sound-step b at (t .loop-test .taken) ∙ rw good) ∙ t .before .loop .inv .3,
     )
 
 returns-4 : tie.Need-returns-4 Inv-loop μ-loop
@@ -104,23 +107,6 @@ returns-5 c =
 pub count-records-spec : {M : Type 1} → statement M
 count-records-spec =
     tie.close
-    (tie.spec
-    Inv-loop
-    μ-loop
-    loop-holds
-    returns
-    (λ c. search needs)
-    (λ c κs. search needs)
-    (λ c. search needs)
-    returns-2
-    (λ c. search needs)
-    (λ c. search needs)
-    (λ c. search needs)
-    (λ c. search needs)
-    (λ c κs. search needs)
-    returns-3
-    (λ c. search needs)
-    loop-less
-    loop-again
-    returns-4
-    returns-5)
+    (tie.spec Inv-loop μ-loop loop-holds returns (λ c. search needs) (λ c κs. search needs) (λ c. search needs) returns-2
+    (λ c. search needs) (λ c. search needs) (λ c. search needs) (λ c. search needs) (λ c κs. search needs) returns-3
+    (λ c. search needs) loop-less loop-again returns-4 returns-5)

@@ -17,28 +17,16 @@ returns c =
 
 returns-2 : tie.Need-returns-2
 returns-2 c =
-    let start = c .before .before .before .before .before .before .before .before in
+    let read = c .before .before .before .before .before in
+    let start = read .before .before .before in
     let a = start .args in
-    let used = c .before .before .before .before .before .wide in
+    let used = read .wide in
     ap₂ (λ (p q : Bool). leb 1 (used .result) && p && q) (c .before .before .all-in-class .ensures) (c .all-zero .ensures)
     ∙ field-tests (a .room) (a .low) (a .high) (a .except) (a .r .now) (a .at) (used .result) (start .pre) (used .ensures) (omega arith)
 
 pub field-is-sound-spec : {M : Type 1} → statement M
 field-is-sound-spec =
     tie.close
-    (tie.spec
-    (λ c. search needs)
-    (λ c κs. search needs)
-    returns
-    (λ c. search needs)
-    (λ c. search needs)
-    (λ c. search needs)
-    (λ c. search needs)
-    (λ c. search needs)
-    (λ c. search needs)
-    (λ c κs. search needs)
-    (λ c. search needs)
-    (λ c. search needs)
-    (λ c. search needs)
-    (λ c κs. search needs)
-    returns-2)
+    (tie.spec (λ c. search needs) (λ c κs. search needs) returns (λ c. search needs) (λ c. search needs) (λ c. search needs)
+    (λ c. search needs) (λ c. search needs) (λ c. search needs) (λ c κs. search needs) (λ c. search needs) (λ c. search needs)
+    (λ c. search needs) (λ c κs. search needs) returns-2)

@@ -3,7 +3,7 @@ use borrow.Author.Needs.{needs}
 use native.Mathlib.Omega.{arith}
 use Prim.Native.Nat.{_+_}
 use lib.ListN.{getD}
-use Rattle.client_registry.proofs.Bytes.{part-to}
+use Rattle.octets.proofs.Lists.{part-to}
 use Rattle.client_registry.proofs.field_text.Statement.{statement}
 use Rattle.client_registry.proofs.field_text.Tie as tie
 
@@ -16,12 +16,5 @@ returns c =
 pub field-text-spec : {M : Type 1} → statement M
 field-text-spec =
     tie.close
-    (tie.spec
-    (λ c. search needs)
-    (λ c. search needs)
-    (λ c κs. search needs)
-    (λ c. search needs)
-    (λ c. search needs)
-    (λ c. search needs)
-    (λ c. search needs)
-    returns)
+    (tie.spec (λ c. search needs) (λ c. search needs) (λ c κs. search needs) (λ c. search needs) (λ c. search needs)
+    (λ c. search needs) (λ c. search needs) returns)

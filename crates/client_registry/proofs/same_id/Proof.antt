@@ -1,59 +1,27 @@
--- The id field of a sound record lies within the bytes, and is the id, its length in front and zeros behind.
+-- The id field of a sound record is the id, its length in front and zeros behind.
 use borrow.Author.Needs.{needs}
-use mathlib.Core.Path.{_∙_}
-use native.Mathlib.Omega.{arith}
-use Rattle.client_registry.proofs.Records.{record-room, same-ids}
+use mathlib.Core.Path.{ap₂, _∙_}
+use mathlib.Core.List.{List}
+use Prim.Native.Nat.{ℕ, _+_}
+use Rattle.octets.specs.Lists.{part, same}
+use Rattle.client_registry.specs.Layout.{idRoom, atId}
+use Rattle.client_registry.specs.Lookup.{recordAt}
+use Rattle.client_registry.proofs.Records.{same-ids}
 use Rattle.client_registry.proofs.same_id.Statement.{statement}
 use Rattle.client_registry.proofs.same_id.Tie as tie
 
-add-from : tie.Need-add-from
-add-from c =
-    let s = c .before in
-    omega (arith, record-room (s .args .b .now) (s .args .at) (s .pre .0))
-
-add-to : tie.Need-add-to
-add-to c =
-    let s = c .before in
-    omega (arith, record-room (s .args .b .now) (s .args .at) (s .pre .0))
-
-add-other-from : tie.Need-add-other-from
-add-other-from c =
-    let s = c .before in
-    omega (arith, record-room (s .args .b .now) (s .args .other) (s .pre .1))
-
-add-other-to : tie.Need-add-other-to
-add-other-to c =
-    let s = c .before in
-    omega (arith, record-room (s .args .b .now) (s .args .other) (s .pre .1))
-
-part-equal-end : tie.Need-part-equal-end
-part-equal-end c =
-    let s = c .before in
-    omega (arith, record-room (s .args .b .now) (s .args .at) (s .pre .0))
-
-part-equal-end-2 : tie.Need-part-equal-end-2
-part-equal-end-2 c =
-    let s = c .before .before in
-    omega (arith, record-room (s .args .b .now) (s .args .other) (s .pre .1))
-
 returns : tie.Need-returns
 returns c =
-    let s = c .before .before .before .before in
-    c .equal .ensures ∙ same-ids (s .args .b .now) (s .args .at) (s .args .other) (s .pre .0) (s .pre .1)
+    let two = c .before .before .before in
+    let one = two .before in
+    let s = one .before .before in
+    let b = s .args .b .now in
+    c .equal .ensures
+    ∙ ap₂ (λ (r t : List ℕ). same (part r atId (1 + idRoom)) (part t atId (1 + idRoom))) (one .record-at .ensures .0) (two .record-at2 .ensures .0)
+    ∙ same-ids (recordAt b (s .args .at)) (recordAt b (s .args .other)) (s .pre .0) (s .pre .1)
 
 pub same-id-spec : {M : Type 1} → statement M
 same-id-spec =
     tie.close
-    (tie.spec
-    add-from
-    add-to
-    add-other-from
-    add-other-to
-    (λ c. search needs)
-    (λ c. search needs)
-    part-equal-end
-    (λ c. search needs)
-    (λ c. search needs)
-    part-equal-end-2
-    (λ c κs. search needs)
-    returns)
+    (tie.spec (λ c κs. search needs) (λ c κs. search needs) (λ c. search needs) (λ c. search needs) (λ c. search needs)
+    (λ c. search needs) (λ c. search needs) (λ c. search needs) (λ c κs. search needs) returns)

@@ -4,59 +4,53 @@ use borrow.Author.Needs.{needs}
 use borrow.Author.Tests.{not-true, not-false}
 use Prim.Native.Nat.{_+_, _-_, _≤_}
 use mathlib.Core.Path.{_≡_, refl, sym, _∙_}
-use mathlib.Core.Bool.{true, false}
 use native.Mathlib.Omega.{arith}
 use lib.Dec.{leb·zero}
 use lib.ListN.{length}
 use Rattle.octets.proofs.Pieces.{remaining}
-use Rattle.form.specs.declared.Step.the-variants.{Piece, End}
+use Rattle.form.specs.declared.Step.{Step}
+use Rattle.form.specs.declared.Step.the-variants.{End}
 use Rattle.form.specs.Content.{pieces, isWellFormedForm}
-use Rattle.form.specs.Places.{allUnseen, enterAll, placesOf, stepOf}
-use Rattle.form.proofs.WellFormed.{pieces-well}
-use Rattle.form.proofs.Steps.{Told, told-piece, told-end}
-use Rattle.form.proofs.Entering.{enter-end, enter-step, read-malformed, read-well-formed}
-use Rattle.form.proofs.Answers.{says-of}
+use Rattle.form.specs.Places.{allUnseen, enterAll, placesOf}
+use Rattle.form.proofs.Pieces.{pieces-well}
+use Rattle.form.proofs.Steps.{Told, Tells, step-tells}
+use Rattle.form.proofs.Entering.{enter-end, enter-step}
+use Rattle.form.proofs.Places.{read-malformed, read-well-formed, says-of}
 use Rattle.form.proofs.read.Statement.{statement}
 use Rattle.form.proofs.read.Tie as tie
 
 abbrev Inv-loop : tie.InvT-loop
 Inv-loop s names places₀ c₀ places c =
-    (c .at ≤ length s + 1) × (enterAll (pieces names) places (c .at) (remaining 38 s (c .at)) ≡ placesOf names s)
+    (c .at ≤ length s + 1) × (enterAll (pieces names) places (c .at) (remaining 38 s (c .at)) ≡ placesOf (pieces names) s)
 
 abbrev μ-loop : tie.MeasureT-loop
 μ-loop s names places₀ c₀ places c = length s + 1 - c .at
 
--- what the test told, where it was taken and past it
-malformed : (c : tie.Then1 Inv-loop μ-loop) → isWellFormedForm (c .before .before .before .before .args .s .now) ≡ false
-malformed c =
-    pieces-well (c .before .before .before .before .args .s .now) ∙ sym (c .before .well-formed .ensures)
-    ∙ not-true (c .before .well-formed .result) (c .if1 .taken)
+-- the entry, seen from the test and from a step
+abbrev entry : tie.After-well-formed Inv-loop μ-loop → tie.Start Inv-loop μ-loop
+entry c = c .before .before .before
 
-well-formed : (c : tie.Else1 Inv-loop μ-loop) → isWellFormedForm (c .before .before .before .before .args .s .now) ≡ true
-well-formed c =
-    pieces-well (c .before .before .before .before .args .s .now) ∙ sym (c .before .well-formed .ensures)
-    ∙ not-false (c .before .well-formed .result) (c .if1 .left)
+abbrev start : tie.After-next Inv-loop μ-loop → tie.Start Inv-loop μ-loop
+start c = entry (c .before .before .before .before)
 
--- the entry and the loop's head, seen from a piece that the step gave
-abbrev entry : tie.After-p Inv-loop μ-loop → tie.Start Inv-loop μ-loop
-entry c = c .before .before .before .before .before .before .before .before .before
+-- what the test tells
+tested : (c : tie.After-well-formed Inv-loop μ-loop) → isWellFormedForm (entry c .args .s .now) ≡ c .well-formed .result
+tested c = pieces-well (entry c .args .s .now) ∙ sym (c .well-formed .ensures)
 
-abbrev head : tie.After-p Inv-loop μ-loop → tie.At-loop Inv-loop μ-loop
-head c = c .before .before .before
+-- what the step tells, also where it gave a piece
+tells : (c : tie.After-next Inv-loop μ-loop) (r : Step) → c .next .result ≡ r → Tells (start c .args .s .now) (c .before .loop .c .at) r
+tells c r e = step-tells (start c .args .s .now) (c .before .loop .c .at) r (sym e ∙ c .next .ensures)
 
--- what the step told
-told : (c : tie.After-p Inv-loop μ-loop) → Told (entry c .args .s .now) (head c .loop .c .at) (c .p .given .0 .0) (c .p .given .0 .1 .0)
-told c =
-    let s = entry c .args .s .now in
-    let at = head c .loop .c .at in
-    let e : Piece (c .p .given .0 .0) (c .p .given .0 .1 .0) ≡ stepOf s at = sym (c .p .given .1) ∙ c .before .before .next .ensures in
-    told-piece s at (c .p .given .0 .0) (c .p .given .0 .1 .0) e
+told : (c : tie.After-p Inv-loop μ-loop)
+    → let n = c .before .before in Told (start n .args .s .now) (n .before .loop .c .at) (c .p .given .0 .0) (c .p .given .0 .1 .0)
+told c = tells (c .before .before) _ (c .p .given .1)
 
 returns : tie.Need-returns Inv-loop μ-loop
 unfolding allUnseen
 returns c =
-    let a = c .before .before .before .before .args in
-    says-of (a .names .now) (a .s .now) _ (sym (read-malformed (a .names .now) (a .s .now) (malformed c)))
+    let a = entry (c .before) .args in
+    let malformed = tested (c .before) ∙ not-true (c .before .well-formed .result) (c .if1 .taken) in
+    says-of (a .names .now) (a .s .now) _ (sym (read-malformed (a .names .now) (a .s .now) malformed))
 
 loop-holds : tie.Need-loop-holds Inv-loop μ-loop
 unfolding placesOf allUnseen
@@ -64,29 +58,25 @@ loop-holds c = rw (c .new .ensures, leb·zero) (omega arith, refl)
 
 returns-2 : tie.Need-returns-2 Inv-loop μ-loop
 returns-2 c =
-    let l = c .before .before .before .loop in
-    let past = c .before .before .before .before .before in
-    let a = past .before .before .before .before .args in
-    let e : End ≡ stepOf (a .s .now) (l .c .at) = sym (c .enum-told .given .1) ∙ c .before .before .next .ensures in
-    let done : l .places ≡ placesOf (a .names .now) (a .s .now) =
-    sym (enter-end (pieces (a .names .now)) (l .places) (a .s .now) (l .c .at) (told-end (a .s .now) (l .c .at) e)) ∙ l .inv .1 in
-    says-of (a .names .now) (a .s .now) _
-    (rw (read-well-formed (a .names .now) (a .s .now) (well-formed past), done))
-
-enter-piece-requires : tie.Need-enter-piece-requires Inv-loop μ-loop
-enter-piece-requires c κs = let t = told (c .before) in (t .forward, t .within)
-
-loop-less : tie.Need-loop-less Inv-loop μ-loop
-loop-less c = let t = told (c .before .before) in omega arith
+    let n = c .before .before in
+    let a = start n .args in
+    let l = n .before .loop in
+    let sound = n .before .before .before in
+    let formed = tested (sound .before) ∙ not-false (sound .before .well-formed .result) (sound .if1 .left) in
+    let end = tells n End (c .enum-told .given .1) in
+    let done : l .places ≡ placesOf (pieces (a .names .now)) (a .s .now) =
+    sym (enter-end (pieces (a .names .now)) (l .places) (a .s .now) (l .c .at) end) ∙ l .inv .1 in
+    says-of (a .names .now) (a .s .now) _ (rw (read-well-formed (a .names .now) (a .s .now) formed, done))
 
 loop-again : tie.Need-loop-again Inv-loop μ-loop
 loop-again c =
     let p = c .before .before in
-    let a = entry p .args in
-    let l = head p .loop in
+    let n = p .before .before in
+    let a = start n .args in
+    let l = n .before .loop in
     let t = told p in
-    let entered = enter-step (pieces (a .names .now)) (l .places) (a .s .now) (l .c .at) (p .p .given .0 .0) (p .p .given .0 .1 .0) t in
-    (omega arith, rw (c .enter-piece .ensures) (entered ∙ l .inv .1))
+    let step = enter-step (pieces (a .names .now)) (l .places) (a .s .now) (l .c .at) (p .p .given .0 .0) (p .p .given .0 .1 .0) t in
+    (omega arith, rw (c .enter-piece .ensures) (step ∙ l .inv .1))
 
 pub read-spec : {M : Type 1} → statement M
 read-spec =
@@ -102,6 +92,6 @@ read-spec =
     (λ c. search needs)
     returns-2
     (λ c. search needs)
-    enter-piece-requires
-    loop-less
+    (λ c κs. let t = told (c .before) in (t .forward, t .within))
+    (λ c. let t = told (c .before .before) in omega arith)
     loop-again)

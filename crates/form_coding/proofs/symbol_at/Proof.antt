@@ -23,12 +23,6 @@ digits c =
     let d = escape-digits (a .v .now) (a .i) (escape (c .before .before)) in
     (rw (c .before .digit-at .ensures) (d .0), rw (c .digit-at2 .ensures) (d .1))
 
-mul-t8 : tie.Need-mul-t8
-mul-t8 c = let d = digits c in omega arith
-
-add-t9 : tie.Need-add-t9
-add-t9 c = let d = digits c in omega arith
-
 returns : tie.Need-returns
 returns c =
     let a = c .before .before .before .before .before .args in
@@ -53,8 +47,8 @@ symbol-at-spec =
     (λ c κs. search needs)
     (λ c. search needs)
     (λ c κs. search needs)
-    mul-t8
-    add-t9
+    (λ c. let d = digits c in omega arith)
+    (λ c. let d = digits c in omega arith)
     returns
     (λ c. search needs)
     returns-2

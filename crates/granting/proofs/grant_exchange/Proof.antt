@@ -1,181 +1,149 @@
--- The tests come in the order of the definition. At each place the lemmas say what the searches found so far, and so what is
--- decided of a call that ends there.
+-- The tests come in the order of the plan's reasons. A live code's slot is not counted as room, and is room once it is cleared:
+-- one slot besides it is enough for two. Past the tests the code that was found is spent.
 use borrow.Author.Needs.{needs}
-use Prim.Native.Nat.{ℕ, _<_}
-use mathlib.Core.Path.{_≡_, sym, ap, ap₂, _∙_}
-use mathlib.Core.Bool.{true}
+use mathlib.Core.Path.{_≡_, refl, sym, ap, ap₂, _∙_}
+use mathlib.Core.Bool.{not, _&&_}
 use mathlib.Core.List.{List}
-use borrow.Author.Tests.{not-true, not-false}
-use Rattle.token_store.specs.Layout.{slotCount}
-use Rattle.token_store.specs.Search.{indexFrom}
-use Rattle.token_store.specs.Store.{Store, decode, slotOf, isVacant, codeKey}
-use Rattle.token_store.specs.declared.Found.the-variants.{At}
-use Rattle.token_store.proofs.Codec.{found-below}
-use Rattle.protocol.specs.declared.ErrorWord.the-variants.{InvalidGrant}
-use Rattle.protocol.specs.declared.Refusal.{Refusal}
-use Rattle.protocol.specs.declared.Refusal.the-variants.{Token, Failed}
-use Rattle.protocol.specs.declared.Failure.the-variants.{NoRoom, Clash}
+use Prim.Native.Nat.{ℕ}
+use lib.Dec.{leb}
+use Rattle.token_store.specs.Store.{decode, withSlots, freeSlot, isBoundCode}
+use Rattle.token_store.specs.declared.Slot.{Slot}
+use Rattle.token_store.specs.declared.Sought.the-variants.{Code}
 use Rattle.protocol.specs.declared.Decision.{Decision}
-use Rattle.protocol.specs.declared.Decision.the-variants.{Grant, Refuse}
-use Rattle.protocol.specs.Requests.{Request, exchange}
-use Rattle.protocol.specs.Granting.{firstHandle, secondHandle, isGoodCode, decide}
-use Rattle.granting.specs.declared.Granted.{Granted}
-use Rattle.granting.specs.Granted.{refusedWith, withSlots, anyClash, spentAt}
-use Rattle.granting.proofs.Outcomes.{Answered, token-refuses, token-grants, exchange-unfound, exchange-bad, exchange-full, exchange-clash, exchange-granted, exchange-slots, exchange-scope}
+use Rattle.protocol.specs.Granting.{Plan, firstHandle, secondHandle, shownSlot, room, withoutCode, anyTaken, exchangePlan}
+use Rattle.protocol.proofs.Reasons.{none, stop, pass}
+use Rattle.granting.specs.Granted.{spentOn}
+use Rattle.granting.proofs.Plans.{Own, own-found, own-none, room-without, Past, refuses, grants}
 use Rattle.granting.proofs.grant_exchange.Statement.{statement}
 use Rattle.granting.proofs.grant_exchange.Tie as tie
 
--- ---- a call: its store, its random bytes, its request and what is decided of it
+abbrev start : tie.After-find-own → tie.Start
+start c = c .before .before .before .before
 
-abbrev storeOf : tie.Start → Store
-storeOf s = decode (s .args .store .now)
+abbrev slotsOf : tie.Start → List Slot
+slotsOf s = decode (s .args .store .now) .slots
 
-abbrev randomOf : tie.Start → List ℕ
-randomOf s = s .args .random .now
+abbrev planAt : tie.Start → Plan
+planAt s = exchangePlan (s .args .t) (slotsOf s) (s .args .random .now) (s .args .presented) (s .args .request)
 
-abbrev requestOf : tie.Start → Request
-requestOf s = exchange (s .args .client) (s .args .presented) (s .args .again)
+-- ---- the client's own code is found
 
-abbrev Decides : tie.Start → Decision → Type 0
-Decides s d = decide (s .args .t) (storeOf s .slots) (randomOf s) (requestOf s) ≡ d
+abbrev looked : tie.After-i → tie.Start
+looked c = start (c .before .before)
 
-refusal : (s : tie.Start) (r : Granted) (x : Refusal) → r ≡ refusedWith x → Decides s (Refuse x)
-    → Answered (s .args .t) (storeOf s) (randomOf s) (requestOf s) r (storeOf s)
-refusal s = token-refuses (s .args .t) (storeOf s) (randomOf s) (requestOf s)
+own : (c : tie.After-i)
+    → let a = looked c .args in
+    Own (a .t) (a .request .client) Code (a .presented) (slotsOf (looked c)) (c .i .given .0 .0)
+own c = own-found _ _ _ _ _ _ (sym (c .i .given .1) ∙ c .before .before .find-own .ensures)
 
--- ---- the code is found in slot i, or nothing is
+past-own : (c : tie.After-i) {d : Decision} → Past 1 (planAt (looked c)) d
+unfolding exchangePlan
+past-own c = pass (ap not (own c .own))
 
-unfound : (c : tie.After-enum-told) → Decides (c .before .before .before .before .before .before) (Refuse (Token InvalidGrant))
-unfound c =
-    let looked = c .before .before in
-    let s = looked .before .before .before .before in
-    let a = s .args in
-    exchange-unfound (a .t) (storeOf s .slots) (randomOf s) (a .client) (a .presented) (a .again) (sym (looked .find .ensures) ∙ c .enum-told .given .1)
+abbrev found : tie.After-slot-at → tie.After-i
+found c = c .before .before .before
 
-abbrev startOf : tie.After-i → tie.Start
-startOf c = c .before .before .before .before .before .before
+code : (c : tie.After-slot-at) → c .slot-at .result ≡ shownSlot Code (looked (found c) .args .presented) (slotsOf (looked (found c)))
+code c = c .slot-at .ensures ∙ sym (own (found c) .first .taken)
 
-abbrev place : tie.After-i → ℕ
-place c = c .i .given .0 .0
+-- ---- it is not bound, or its redirect address came again
 
-found : (c : tie.After-i) → indexFrom (codeKey (startOf c .args .presented)) 0 (storeOf (startOf c) .slots) ≡ At (place c)
-found c = sym (c .before .before .find .ensures) ∙ c .i .given .1
+missed : (c : tie.After-slot-at)
+    → let s = looked (found c) in
+    (isBoundCode (shownSlot Code (s .args .presented) (slotsOf s)) && not (s .args .request .again))
+    ≡ (isBoundCode (c .slot-at .result) && not (s .args .request .again))
+missed c = ap (λ (s : Slot). isBoundCode s && not (looked (found c) .args .request .again)) (sym (code c))
 
-below : (c : tie.After-i) → place c < slotCount
-below c = found-below (codeKey (startOf c .args .presented)) (startOf c .args .store .now) (place c) (found c)
+abbrev read : tie.Else1 → tie.After-slot-at
+read c = c .before .before .before
 
--- ---- the code is good, or not
+past-address : (c : tie.Else1) {d : Decision} → Past 2 (planAt (looked (found (read c)))) d
+unfolding exchangePlan
+past-address c f = past-own (found (read c)) (pass (missed (read c) ∙ c .if1 .left) f)
 
-bad : (c : tie.Then1) → Decides (startOf (c .before .before .before .before)) (Refuse (Token InvalidGrant))
-bad c =
-    let at = c .before .before .before .before in
-    let s = startOf at in
-    let a = s .args in
-    exchange-bad (a .t) (storeOf s .slots) (randomOf s) (a .client) (a .presented) (a .again) (place at) (found at)
-    (sym (c .before .is-good-code .ensures) ∙ not-true (c .before .is-good-code .result) (c .if1 .taken))
+-- ---- there is room besides it
 
-abbrev codeOf : tie.Else1 → tie.After-i
-codeOf c = c .before .before .before .before
+abbrev sound : tie.After-has-room → tie.Else1
+sound c = c .before .before
 
-good : (c : tie.Else1)
-    → (let s = startOf (codeOf c) in isGoodCode (s .args .t) (s .args .client) (s .args .again) (slotOf (storeOf s) (place (codeOf c)))) ≡ true
-good c = sym (c .before .is-good-code .ensures) ∙ not-false (c .before .is-good-code .result) (c .if1 .left)
+abbrev begun : tie.After-has-room → tie.Start
+begun c = looked (found (read (sound c)))
 
--- ---- there is a slot besides the code's own, or none
+full : (c : tie.After-has-room)
+    → let a = begun c .args in
+    not (leb 2 (room (a .t) (withoutCode (a .presented) (slotsOf (begun c))))) ≡ not (c .has-room .result)
+full c = ap not (room-without (own (found (read (sound c)))) ∙ sym (c .has-room .ensures))
 
-full : (c : tie.After-enum-told3) → Decides (startOf (codeOf (c .before .before .before .before))) (Refuse (Failed NoRoom))
-full c =
-    let passed = c .before .before .before .before in
-    let at = codeOf passed in
-    let s = startOf at in
-    let a = s .args in
-    exchange-full (a .t) (storeOf s .slots) (randomOf s) (a .client) (a .presented) (a .again) (place at) (found at) (good passed)
-    (sym (c .before .before .vacant .ensures) ∙ c .enum-told3 .given .1)
+past-room : (c : tie.Else2) {d : Decision} → Past 3 (planAt (begun (c .before))) d
+unfolding exchangePlan
+past-room c f = past-address (sound (c .before)) (pass (full (c .before) ∙ c .if2 .left) f)
 
-abbrev goodOf : tie.After-enum-told2 → tie.Else1
-goodOf c = c .before .before .before .before
+-- ---- no handle is in use, and they differ
 
-room : (c : tie.After-enum-told2)
-    → (let s = startOf (codeOf (goodOf c)) in indexFrom (isVacant (s .args .t)) 0 (storeOf s .slots)) ≡ At (c .enum-told2 .given .0 .0)
-room c = sym (c .before .before .vacant .ensures) ∙ c .enum-told2 .given .1
+abbrev drawn : tie.After-any-clash → tie.After-handle-at2
+drawn c = c .before .before .before .before
 
--- ---- a handle clashes, or none does
+abbrev roomy : tie.After-any-clash → tie.Else2
+roomy c = drawn c .before .before
 
-abbrev roomOf : tie.After-any-clash → tie.After-enum-told2
-roomOf c = c .before .before .before .before .before .before
-
-abbrev callOf : tie.After-any-clash → tie.Start
-callOf c = startOf (codeOf (goodOf (roomOf c)))
-
--- the handles are the halves of the random bytes
-access-handle : (c : tie.After-any-clash) → c .before .before .before .before .before .handle-at .result ≡ firstHandle (randomOf (callOf c))
-access-handle c = c .before .before .before .before .before .handle-at .ensures
-
-refresh-handle : (c : tie.After-any-clash) → c .before .before .before .before .handle-at2 .result ≡ secondHandle (randomOf (callOf c))
-refresh-handle c = c .before .before .before .before .handle-at2 .ensures
-
-clash : (c : tie.After-any-clash)
-    → c .any-clash .result ≡ anyClash (firstHandle (randomOf (callOf c))) (secondHandle (randomOf (callOf c))) (storeOf (callOf c) .slots)
-clash c =
-    let slots = storeOf (callOf c) .slots in
-    c .any-clash .ensures ∙ ap₂ (λ (h k : List ℕ). anyClash h k slots) (access-handle c) (refresh-handle c)
-
-clashes : (c : tie.Then2) → Decides (callOf (c .before)) (Refuse (Failed Clash))
-clashes c =
-    let passed = goodOf (roomOf (c .before)) in
-    let at = codeOf passed in
-    let s = startOf at in
-    let a = s .args in
-    exchange-clash (a .t) (storeOf s .slots) (randomOf s) (a .client) (a .presented) (a .again) (place at) (found at) (good passed)
-    (roomOf (c .before) .enum-told2 .given .0 .0) (room (roomOf (c .before))) (sym (clash (c .before)) ∙ c .if2 .taken)
-
-grants : (c : tie.Else2) → Decides (callOf (c .before)) Grant
-grants c =
-    let passed = goodOf (roomOf (c .before)) in
-    let at = codeOf passed in
-    let s = startOf at in
-    let a = s .args in
-    exchange-granted (a .t) (storeOf s .slots) (randomOf s) (a .client) (a .presented) (a .again) (place at) (found at) (good passed)
-    (roomOf (c .before) .enum-told2 .given .0 .0) (room (roomOf (c .before))) (sym (clash (c .before)) ∙ c .if2 .left)
+taken : (c : tie.After-any-clash)
+    → let s = begun (roomy c .before) in
+    anyTaken (firstHandle (s .args .random .now)) (secondHandle (s .args .random .now)) (slotsOf s) ≡ c .any-clash .result
+taken c =
+    let s = begun (roomy c .before) in
+    sym (c .any-clash .ensures
+    ∙ ap₂ (λ (x y : List ℕ). anyTaken x y (slotsOf s)) (drawn c .before .handle-at .ensures) (drawn c .handle-at2 .ensures))
 
 -- ---- the needs
 
 returns : tie.Need-returns
-returns c = refusal (c .before .before .before .before .before .before .before) (c .refused .result) (Token InvalidGrant) (c .refused .ensures) (unfound (c .before))
+unfolding exchangePlan
+returns c =
+    let looked = c .before .before .before in
+    let a = start looked .args in
+    let nothing = sym (c .before .enum-told .given .1) ∙ looked .find-own .ensures in
+    refuses (stop (ap not (own-none (a .t) (a .request .client) Code (a .presented) (a .store .now) nothing))) (c .refused .ensures) refl
 
-is-good-code-requires : tie.Need-is-good-code-requires
-is-good-code-requires c κs =
-    let at = c .before .before in
-    (startOf at .pre .0, below at)
+slot-at-requires : tie.Need-slot-at-requires
+slot-at-requires c κs = let at = c .before .before in (looked at .pre .0, own at .first .below)
 
 returns-2 : tie.Need-returns-2
-returns-2 c = refusal (startOf (c .before .before .before .before .before)) (c .refused2 .result) (Token InvalidGrant) (c .refused2 .ensures) (bad (c .before))
+unfolding exchangePlan
+returns-2 c =
+    let shown = c .before .before .before .before in
+    refuses (past-own (found shown) (stop (missed shown ∙ c .before .if1 .taken))) (c .refused2 .ensures) refl
 
 returns-3 : tie.Need-returns-3
-returns-3 c = refusal (startOf (codeOf (c .before .before .before .before .before))) (c .refused3 .result) (Failed NoRoom) (c .refused3 .ensures) (full (c .before))
+unfolding exchangePlan
+returns-3 c =
+    let tested = c .before .before in
+    refuses (past-address (sound tested) (stop (full tested ∙ c .before .if2 .taken))) (c .refused3 .ensures) refl
 
 returns-4 : tie.Need-returns-4
-returns-4 c = refusal (callOf (c .before .before)) (c .refused4 .result) (Failed Clash) (c .refused4 .ensures) (clashes (c .before))
+unfolding exchangePlan
+returns-4 c =
+    let tested = c .before .before in
+    refuses (past-room (roomy tested) (stop (taken tested ∙ c .before .if3 .taken))) (c .refused4 .ensures) refl
 
-spend-code-requires : tie.Need-spend-code-requires
-spend-code-requires c κs =
-    let at = codeOf (goodOf (roomOf (c .before .before))) in
-    (startOf at .pre .0, below at, startOf at .pre .1)
+spend-requires : tie.Need-spend-requires
+spend-requires c κs =
+    let at = found (read (sound (roomy (c .before .before) .before))) in
+    (looked at .pre .0, looked at .pre .1, own at .first .below)
 
 returns-5 : tie.Need-returns-5
+unfolding exchangePlan
 returns-5 c =
-    let spend = c .before .before in
-    let free = spend .before .before in
-    let at = codeOf (goodOf (roomOf (free .before))) in
-    let s = startOf at in
-    let a = s .args in
-    let g = storeOf s in
-    token-grants (a .t) g (randomOf s) (requestOf s) (spend .spend-code .result) _ (grants free)
-    (spend .spend-code .ensures .0 ∙ exchange-scope (a .t) (g .slots) (randomOf s) (a .client) (a .presented) (a .again) (place at) (found at))
-    (spend .spend-code .ensures .1
-    ∙ ap (withSlots g)
-    (ap₂ (λ (h k : List ℕ). spentAt (a .t) h k (place at) (g .slots)) (access-handle (free .before)) (refresh-handle (free .before))
-    ∙ exchange-slots (a .t) (g .slots) (randomOf s) (a .client) (a .presented) (a .again) (place at) (found at)))
+    let spent = c .before .before .before in
+    let tested = spent .before .before .before in
+    let made = drawn tested in
+    let shown = read (sound (roomy tested .before)) in
+    let a = looked (found shown) .args in
+    grants (past-room (roomy tested) (pass (taken tested ∙ spent .before .before .if3 .left) none))
+    (c .issued .ensures ∙ rw (code shown))
+    (spent .spend .ensures
+    ∙ λ j. withSlots (decode (a .store .now))
+    (spentOn (a .t) (made .before .handle-at .ensures j) (made .handle-at2 .ensures j) (code shown j)
+    (sym (own (found shown) .first .replaced freeSlot) j)))
 
 pub grant-exchange-spec : {M : Type 1} → statement M
 grant-exchange-spec =
@@ -187,13 +155,11 @@ grant-exchange-spec =
     (λ c κs. search needs)
     (λ c. search needs)
     returns
-    is-good-code-requires
+    slot-at-requires
     (λ c κs. search needs)
     (λ c. search needs)
     returns-2
     (λ c κs. search needs)
-    (λ c. search needs)
-    (λ c. search needs)
     (λ c κs. search needs)
     (λ c. search needs)
     returns-3
@@ -205,6 +171,7 @@ grant-exchange-spec =
     (λ c κs. search needs)
     (λ c. search needs)
     returns-4
-    spend-code-requires
+    spend-requires
+    (λ c κs. search needs)
     (λ c. search needs)
     returns-5)

@@ -1,9 +1,9 @@
 -- The scan has seen the first i bytes, and `ok` says whether they are all in the class.
 use borrow.Author.Needs.{needs}
-use Prim.Native.Nat.{ℕ, _≤_, _-_}
+use Prim.Native.Nat.{_≤_, _-_}
 use mathlib.Core.Path.{_≡_, refl, ap, ap₂, sym, _∙_}
 use mathlib.Core.Bool.{Bool, _&&_}
-use lib.ListN.{length, getD, take}
+use lib.ListN.{length, take}
 use lib.Seq.{take-all}
 use Rattle.octets.specs.Lists.{every, inClass}
 use Rattle.octets.proofs.Lists.{every-none, every-more}

@@ -1,6 +1,6 @@
 -- The scan has seen the first i bytes, and `ok` says whether they are all zero.
 use borrow.Author.Needs.{needs}
-use Prim.Native.Nat.{ℕ, _≤_, _-_}
+use Prim.Native.Nat.{_≤_, _-_}
 use mathlib.Core.Path.{_≡_, refl, ap, sym, _∙_}
 use mathlib.Core.Bool.{Bool, _&&_}
 use lib.ListN.{length, getD, take}

@@ -1,7 +1,7 @@
 -- Slices of different lengths differ. Of equal lengths, the scan has compared the first i bytes of both, and `ok` says
 -- whether those are equal.
 use borrow.Author.Needs.{needs}
-use Prim.Native.Nat.{ℕ, _≤_, _-_}
+use Prim.Native.Nat.{_≤_, _-_}
 use mathlib.Core.Path.{_≡_, refl, ap, ap₂, sym, _∙_}
 use mathlib.Core.Bool.{Bool, _&&_}
 use lib.Dec.{eqb}

@@ -7,7 +7,8 @@ use Rattle.octets.proofs.read_be32.Tie as tie
 
 returns : tie.Need-returns
 returns c =
-    let a = c .before .before .before .before .before .before .before .before .before .args in
+    let third = c .before .before .before .before in
+    let a = third .before .before .before .before .before .args in
     omega (arith, be-four (a .s .now) (a .at) (omega arith))
 
 pub read-be32-spec : {M : Type 1} → statement M

@@ -42,30 +42,12 @@ bit c = rw add-sub-cancel-left at (c .name-bit .ensures)
 loop-holds : tie.Need-loop-holds Inv-loop μ-loop
 loop-holds c = (search needs, read-start (c .before .args .v .now))
 
-add-end : tie.Need-add-end Inv-loop μ-loop
-add-end c = omega (arith, space c .1)
-
-sub-name-bit : tie.Need-sub-name-bit Inv-loop μ-loop
-sub-name-bit c = omega arith
-
-part-name-bit-start : tie.Need-part-name-bit-start Inv-loop μ-loop
-part-name-bit-start c = omega arith
-
-part-name-bit-end : tie.Need-part-name-bit-end Inv-loop μ-loop
-part-name-bit-end c = omega (arith, space c .1)
-
 returns : tie.Need-returns Inv-loop μ-loop
 returns c =
     let found = c .before .before .before in
     let v = found .before .before .before .before .before .args .v .now in
     let l = found .before .before .before .loop in
     sym (read-other (l .set) v (l .at) _ _ (omega arith) (space found .0) (bit (c .before)) (c .if1 .taken)) ∙ l .inv .1
-
-add-at : tie.Need-add-at Inv-loop μ-loop
-add-at c = omega (arith, space (c .before .before .before .before .before) .1)
-
-loop-less : tie.Need-loop-less Inv-loop μ-loop
-loop-less c = omega (arith, space (c .before .before .before .before .before) .1)
 
 loop-again : tie.Need-loop-again Inv-loop μ-loop
 loop-again c =
@@ -74,7 +56,8 @@ loop-again c =
     let v = found .before .before .before .before .before .args .v .now in
     let l = found .before .before .before .loop in
     let rest = remaining 32 v (l .at + found .index-of .result + 1) in
-    let j : c .join .result ≡ join (l .set) (ofByte (named .name-bit .result)) = c .join .ensures ∙ ap (join (l .set)) (c .before .from-byte .ensures) in
+    let j : c .join .result ≡ join (l .set) (ofByte (named .name-bit .result))
+    = c .join .ensures ∙ ap (join (l .set)) (c .before .from-byte .ensures) in
     let n = read-name (l .set) v (l .at) _ _ (omega arith) (space found .0) (bit named) (c .before .before .if1 .left) in
     (omega (arith, space found .1), ap (λ (s : Scope). readFrom s rest) j ∙ sym n ∙ l .inv .1)
 
@@ -95,15 +78,15 @@ read-spec =
     (λ c. search needs)
     (λ c. search needs)
     (λ c κs. search needs)
-    add-end
-    sub-name-bit
-    part-name-bit-start
-    part-name-bit-end
+    (λ c. omega (arith, space c .1))
+    (λ c. omega arith)
+    (λ c. omega arith)
+    (λ c. omega (arith, space c .1))
     (λ c κs. search needs)
     returns
     (λ c κs. search needs)
     (λ c κs. search needs)
-    add-at
-    loop-less
+    (λ c. omega (arith, space (c .before .before .before .before .before) .1))
+    (λ c. omega (arith, space (c .before .before .before .before .before) .1))
     loop-again
     returns-2)

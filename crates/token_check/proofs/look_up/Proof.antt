@@ -1,50 +1,65 @@
--- The look-up gives the lowest slot with the token, or nothing; the slot is live or not: three ways out, a law for each.
+-- What the look-up finds is the slot of the definition; where it finds nothing that is a free slot, which is never live.
 use borrow.Author.Needs.{needs}
 use borrow.Author.Tests.{not-true, not-false}
-use Prim.Native.Nat.{_<_}
-use mathlib.Core.Path.{_≡_, sym, ap, _∙_}
-use Rattle.token_store.specs.Layout.{slotCount}
-use Rattle.token_store.specs.Search.{indexFrom}
-use Rattle.token_store.specs.Store.{decode, accessKey}
-use Rattle.token_store.specs.declared.Found.the-variants.{At}
-use Rattle.token_store.proofs.Codec.{found-below}
-use Rattle.protocol.specs.declared.CheckAnswer.the-variants.{Live}
-use Rattle.token_check.proofs.Checking.{check-none, check-dead, check-live}
+use mathlib.Core.Path.{_≡_, sym, _∙_}
+use mathlib.Core.Bool.{Bool}
+use mathlib.Core.List.{List}
+use Rattle.token_store.specs.Store.{isLive, soughtKey, decode}
+use Rattle.token_store.specs.declared.Slot.{Slot}
+use Rattle.token_store.specs.declared.Sought.the-variants.{Access}
+use Rattle.token_store.proofs.Scans.{First, found-first, found-none}
+use Rattle.token_store.proofs.Slots.{free-dead}
+use Rattle.protocol.specs.Granting.{shownSlot, checkSlots}
 use Rattle.token_check.proofs.look_up.Statement.{statement}
 use Rattle.token_check.proofs.look_up.Tie as tie
 
--- the slot found is one of the store's
-found : (c : tie.After-i) → indexFrom (accessKey (c .before .before .before .before .args .presented)) 0 (decode (c .before .before .before .before .args .store .now) .slots) ≡ At (c .i .given .0 .0)
-found c = sym (c .before .before .find .ensures) ∙ c .i .given .1
+abbrev start : tie.After-find → tie.Start
+start c = c .before .before
 
-below : (c : tie.After-i) → c .i .given .0 .0 < slotCount
-below c = found-below (accessKey (c .before .before .before .before .args .presented)) (c .before .before .before .before .args .store .now) (c .i .given .0 .0) (found c)
+abbrev key : tie.After-find → Slot → Bool
+key c = soughtKey Access (start c .args .presented)
+
+abbrev slots : tie.After-find → List Slot
+slots c = decode (start c .args .store .now) .slots
+
+found : (c : tie.After-i) → First (key (c .before .before)) (slots (c .before .before)) (c .i .given .0 .0)
+found c = let looked = c .before .before in found-first (key looked) _ _ (sym (looked .find .ensures) ∙ c .i .given .1)
+
+-- the slot that is read is the one that the definition looks at
+abbrev looked : tie.After-slot-at → tie.After-find
+looked c = c .before .before .before .before
+
+shown : (c : tie.After-slot-at) → shownSlot Access (start (looked c) .args .presented) (slots (looked c)) ≡ c .slot-at .result
+shown c = found (c .before .before) .taken ∙ sym (c .slot-at .ensures)
 
 returns : tie.Need-returns
+unfolding checkSlots
 returns c =
-    let a = c .before .before .before .before .args in
-    check-none (a .t) (decode (a .store .now) .slots) (a .presented) (sym (c .before .before .find .ensures) ∙ c .enum-told .given .1)
+    let at = c .before .before in
+    let none = found-none (key at) (start at .args .store .now) (sym (at .find .ensures) ∙ c .enum-told .given .1) in
+    rw (none .taken, free-dead (start at .args .t))
 
-is-live-requires : tie.Need-is-live-requires
-is-live-requires c κs = (c .before .before .before .before .before .pre, below (c .before))
+slot-at-requires : tie.Need-slot-at-requires
+slot-at-requires c κs = (start (c .before .before .before) .pre, found (c .before) .below)
 
 returns-2 : tie.Need-returns-2
+unfolding checkSlots
 returns-2 c =
-    let a = c .before .before .before .before .before .before .before .args in
-    check-dead (a .t) (decode (a .store .now) .slots) (a .presented) _ (found (c .before .before .before))
-    (sym (c .before .is-live .ensures) ∙ not-true (c .before .is-live .result) (c .if1 .taken))
+    let judged = c .before in
+    rw (shown (judged .before), sym (judged .is-live .ensures) ∙ not-true (judged .is-live .result) (c .if1 .taken))
+
+-- the token is live
+live : (c : tie.Else1) → isLive (start (looked (c .before .before)) .args .t) (c .before .before .slot-at .result) ≡ c .before .is-live .result
+live c = sym (c .before .is-live .ensures)
 
 live-token-requires : tie.Need-live-token-requires
-live-token-requires c κs =
-    let live = sym (c .before .is-live .ensures) ∙ not-false (c .before .is-live .result) (c .if1 .left) in
-    (c .before .before .before .before .before .before .before .pre, below (c .before .before .before), live)
+live-token-requires c κs = live c ∙ not-false (c .before .is-live .result) (c .if1 .left)
 
 returns-3 : tie.Need-returns-3
+unfolding checkSlots
 returns-3 c =
-    let a = c .before .before .before .before .before .before .before .before .args in
-    ap Live (c .live-token .ensures)
-    ∙ check-live (a .t) (decode (a .store .now) .slots) (a .presented) _ (found (c .before .before .before .before))
-    (sym (c .before .before .is-live .ensures) ∙ not-false (c .before .before .is-live .result) (c .before .if1 .left))
+    let judged = c .before in
+    rw (c .live-token .ensures, shown (judged .before .before), live judged ∙ not-false (judged .before .is-live .result) (judged .if1 .left))
 
 pub look-up-spec : {M : Type 1} → statement M
 look-up-spec =
@@ -54,7 +69,8 @@ look-up-spec =
     (λ c. search needs)
     (λ c. search needs)
     returns
-    is-live-requires
+    slot-at-requires
+    (λ c κs. search needs)
     returns-2
     live-token-requires
     returns-3)

@@ -1,50 +1,28 @@
--- A code that is missing is refused; of one that came the text is read as a handle, and the redirect address is compared
--- with the registered one.
+-- A code that is missing is refused; of one that came the text is read as a handle.
 use borrow.Author.Needs.{needs}
-use mathlib.Core.Path.{_≡_, sym, ap, _∙_}
-use mathlib.Core.List.{List}
-use Prim.Native.Nat.{ℕ}
-use native.Mathlib.Omega.{arith}
-use Rattle.octets.specs.Text.{bytes}
-use Rattle.encoding.specs.Hex.{readHandle}
-use Rattle.form.specs.Content.{Value, formValue}
-use Rattle.client_registry.specs.Registry.{clientsOf}
-use Rattle.client_registry.specs.Lookup.{clientAt}
-use Rattle.protocol.specs.Requests.{isMissing, valueOf, isOnce}
-use Rattle.token_request.specs.Reading.{requestOf}
-use Rattle.token_request.proofs.Readings.{code-missing, code-there, number-byte}
+use mathlib.Core.Path.{sym, _∙_}
+use lib.Dec.{lit<}
+use Rattle.token_request.proofs.Readings.{code-missing, code-there}
 use Rattle.token_request.proofs.read_exchange.Statement.{statement}
 use Rattle.token_request.proofs.read_exchange.Tie as tie
 
--- whether a code came
-abbrev start : tie.After-is-missing → tie.Start
-start c = c .before .before .before .before .before
+abbrev start : tie.After-redirect → tie.Start
+start c = c .before .before .before .before
 
-asked : (c : tie.After-is-missing) → isMissing (formValue (start c .args .body .now) (bytes "code")) ≡ c .is-missing .result
-asked c = ap isMissing (sym (start c .pre .2 .code .value)) ∙ sym (c .is-missing .ensures)
+abbrev past : tie.Else1 → tie.Start
+past c = start (c .before .before)
 
 returns : tie.Need-returns
 returns c =
     let m = c .before .before in
-    let s = start m in
-    c .refuse .ensures
-    ∙ ap requestOf (code-missing (clientsOf (s .args .registry .now)) (s .args .client .number) (s .args .body .now) (asked m ∙ c .before .if1 .taken))
-
-cast-caller : tie.Need-cast-caller
-cast-caller c =
-    let s = start (c .before .before .before .before) in
-    omega (arith, number-byte (s .args .registry .now) (s .args .client) (s .pre .0) (s .pre .3))
+    c .refuse .ensures ∙ code-missing (start (m .before) .pre .stands) _ _ (sym (m .is-missing .ensures) ∙ c .before .if1 .taken)
 
 returns-2 : tie.Need-returns-2
 returns-2 c =
-    let m = c .before .before .before .before in
-    let s = start m in
-    let client = clientAt (clientsOf (s .args .registry .now)) (s .args .client .number) in
-    let presented = c .before .before .presented-by .ensures ∙ ap (λ (v : Value). readHandle (valueOf v)) (s .pre .2 .code .value) in
-    let redirect = formValue (s .args .body .now) (bytes "redirect_uri") in
-    let again = c .is-once .ensures ∙ ap (isOnce (c .before .redirect2 .result .now)) (s .pre .2 .redirect-uri .value)
-    ∙ ap (λ (e : List ℕ). isOnce e redirect) (c .before .redirect2 .ensures) in
-    code-there (clientsOf (s .args .registry .now)) (s .args .client .number) (s .args .body .now) (asked m ∙ c .before .before .before .if1 .left) _ presented _ again
+    let e = c .before .before .before in
+    let there = sym (e .before .is-missing .ensures) ∙ e .if1 .left in
+    let again = rw (c .before .redirect2 .ensures) at (c .is-once .ensures) in
+    code-there (past e .pre .stands) _ _ there _ (c .before .before .handle-presented .ensures) _ again
 
 pub read-exchange-spec : {M : Type 1} → statement M
 read-exchange-spec =
@@ -55,8 +33,7 @@ read-exchange-spec =
     (λ c κs. search needs)
     (λ c κs. search needs)
     returns
+    (λ c κs. (past c .pre .stands .at 3 (lit< tt) .within, past c .pre .short))
     (λ c κs. search needs)
-    (λ c κs. search needs)
-    (λ c κs. search needs)
-    cast-caller
+    (λ c κs. past (c .before .before) .pre .stands .at 4 (lit< tt) .within)
     returns-2)

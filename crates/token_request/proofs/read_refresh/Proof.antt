@@ -1,41 +1,24 @@
 -- A refresh token that is missing is refused; of one that came the text is read as a handle, and so is the scope.
 use borrow.Author.Needs.{needs}
-use mathlib.Core.Path.{_≡_, sym, ap, _∙_}
-use native.Mathlib.Omega.{arith}
-use Rattle.octets.specs.Text.{bytes}
-use Rattle.encoding.specs.Hex.{readHandle}
-use Rattle.form.specs.Content.{Value, formValue}
-use Rattle.protocol.specs.Requests.{isMissing, valueOf, scopeAsked}
-use Rattle.token_request.specs.Reading.{requestOf}
-use Rattle.token_request.proofs.Readings.{token-missing, token-there, number-byte}
+use mathlib.Core.Path.{sym, _∙_}
+use lib.Dec.{lit<}
+use Rattle.token_request.proofs.Readings.{token-missing, token-there}
 use Rattle.token_request.proofs.read_refresh.Statement.{statement}
 use Rattle.token_request.proofs.read_refresh.Tie as tie
 
--- whether a refresh token came
 abbrev start : tie.After-is-missing → tie.Start
-start c = c .before .before .before .before .before
-
-asked : (c : tie.After-is-missing) → isMissing (formValue (start c .args .body .now) (bytes "refresh_token")) ≡ c .is-missing .result
-asked c = ap isMissing (sym (start c .pre .2 .refresh-token .value)) ∙ sym (c .is-missing .ensures)
+start c = c .before .before .before .before
 
 returns : tie.Need-returns
 returns c =
     let m = c .before .before in
-    let s = start m in
-    c .refuse .ensures ∙ ap requestOf (token-missing (s .args .client .number) (s .args .body .now) (asked m ∙ c .before .if1 .taken))
-
-cast-caller : tie.Need-cast-caller
-cast-caller c =
-    let s = start (c .before .before .before) in
-    omega (arith, number-byte (s .args .registry .now) (s .args .client) (s .pre .0) (s .pre .3))
+    c .refuse .ensures ∙ token-missing (start m .pre .1) _ (sym (m .is-missing .ensures) ∙ c .before .if1 .taken)
 
 returns-2 : tie.Need-returns-2
 returns-2 c =
-    let m = c .before .before .before in
-    let s = start m in
-    let presented = c .before .presented-by .ensures ∙ ap (λ (v : Value). readHandle (valueOf v)) (s .pre .2 .refresh-token .value) in
-    let scope = c .scope-asked .ensures ∙ ap scopeAsked (s .pre .2 .scope .value) in
-    token-there (s .args .client .number) (s .args .body .now) (asked m ∙ c .before .before .if1 .left) _ presented _ scope
+    let e = c .before .before in
+    let there = sym (e .before .is-missing .ensures) ∙ e .if1 .left in
+    token-there (start (e .before) .pre .1) _ there _ (c .before .handle-presented .ensures) _ (c .scope-asked .ensures)
 
 pub read-refresh-spec : {M : Type 1} → statement M
 read-refresh-spec =
@@ -46,7 +29,6 @@ read-refresh-spec =
     (λ c κs. search needs)
     (λ c κs. search needs)
     returns
-    (λ c κs. search needs)
-    (λ c κs. search needs)
-    cast-caller
+    (λ c κs. (start (c .before) .pre .1 .at 5 (lit< tt) .within, start (c .before) .pre .0))
+    (λ c κs. (start (c .before .before) .pre .1 .at 6 (lit< tt) .within, start (c .before .before) .pre .0))
     returns-2)

@@ -3,7 +3,7 @@ use borrow.Author.Needs.{needs}
 use mathlib.Core.Path.{_≡_, refl}
 use mathlib.Core.Bool.{Bool, true, false}
 use mir.Val.{boolByte}
-use Rattle.token_store.specs.Search.{bit}
+use Rattle.octets.specs.Search.{bit}
 use Rattle.authorization_server.proofs.numbers.token_reply.Statement.{statement}
 use Rattle.authorization_server.proofs.numbers.token_reply.Tie as tie
 
@@ -14,7 +14,9 @@ as-number false = refl
 
 returns : tie.Need-returns
 returns c =
-    rw (c .before .before .before .decision-number .ensures, c .before .before .status-of .ensures, c .before .decision-error .ensures, as-number (c .before .before .before .before .args .a .challenge))
+    let told = c .before .before in
+    let number = told .before .decision-number .ensures in
+    rw (number, told .status-of .ensures, c .before .decision-error .ensures, as-number (told .before .before .args .a .challenge))
 
 pub token-reply-spec : {M : Type 1} → statement M
 token-reply-spec =

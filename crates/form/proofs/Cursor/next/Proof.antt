@@ -8,30 +8,19 @@ use Rattle.form.proofs.Steps.{found-within, step-piece, step-end}
 use Rattle.form.proofs.Cursor.next.Statement.{statement}
 use Rattle.form.proofs.Cursor.next.Tie as tie
 
+abbrev start : tie.After-index-of → tie.Start
+start c = c .before .before .before .before
+
 -- the piece ends within the form
-fits : (c : tie.After-index-of) → c .before .before .before .before .args .self .at + c .index-of .result ≤ length (c .before .before .before .before .args .s .now)
+fits : (c : tie.After-index-of) → start c .args .self .at + c .index-of .result ≤ length (start c .args .s .now)
 fits c =
-    let a = c .before .before .before .before .args in
+    let a = start c .args in
     found-within (a .s .now) (a .self .at) (c .index-of .result) (c .index-of .ensures) (c .before .before .if1 .taken)
-
-add-t8 : tie.Need-add-t8
-add-t8 c = omega (arith, fits c)
-
-add-t12 : tie.Need-add-t12
-add-t12 c = omega (arith, fits c)
-
-add-t13 : tie.Need-add-t13
-add-t13 c = omega (arith, fits c)
 
 returns : tie.Need-returns
 returns c =
-    let a = c .before .before .before .before .args in
+    let a = start c .args in
     sym (step-piece (a .s .now) (a .self .at) (c .index-of .result) (c .index-of .ensures) (c .before .before .if1 .taken))
-
-returns-2 : tie.Need-returns-2
-returns-2 c =
-    let a = c .before .before .args in
-    sym (step-end (a .s .now) (a .self .at) (c .if1 .left))
 
 pub next-spec : {M : Type 1} → statement M
 next-spec =
@@ -41,8 +30,7 @@ next-spec =
     (λ c. search needs)
     (λ c. search needs)
     (λ c κs. search needs)
-    add-t8
-    add-t12
-    add-t13
+    (λ c. omega (arith, fits c))
+    (λ c. omega (arith, fits c))
     returns
-    returns-2)
+    (λ c. let a = c .before .before .args in sym (step-end (a .s .now) (a .self .at) (c .if1 .left))))

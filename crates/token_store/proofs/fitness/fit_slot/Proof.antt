@@ -7,9 +7,10 @@ use Rattle.token_store.proofs.fitness.fit_slot.Tie as tie
 
 returns : tie.Need-returns
 returns c =
-    let s = c .before .before .before .before in
+    let known = c .before .before .before in
+    let s = known .before in
     c .all-zero .ensures
-    ∙ fit-zero (s .args .clients) (s .args .slot .now) (s .pre) (λ k. c .before .before .before .shared-slice-known .given k .fits) (c .before .if1 .taken)
+    ∙ fit-zero (s .args .clients) (s .args .slot .now) (s .pre) (λ k. known .shared-slice-known .given k .fits) (c .before .if1 .taken)
 
 returns-2 : tie.Need-returns-2
 returns-2 c =
@@ -19,10 +20,4 @@ returns-2 c =
 pub fit-slot-spec : {M : Type 1} → statement M
 fit-slot-spec =
     tie.close
-    (tie.spec
-    (λ c. search needs)
-    (λ c κs. search needs)
-    returns
-    (λ c. search needs)
-    (λ c. search needs)
-    returns-2)
+    (tie.spec (λ c. search needs) (λ c κs. search needs) returns (λ c. search needs) (λ c. search needs) returns-2)

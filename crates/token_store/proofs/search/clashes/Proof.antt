@@ -1,63 +1,49 @@
--- None of the first i slots has the handle, so what is left of the slots decides.
+-- A scan that stops at the first slot that holds the handle.
 use borrow.Author.Needs.{needs}
-use Prim.Native.Nat.{_-_, _≤_, _<_}
-use mathlib.Core.Path.{_≡_, sym, _∙_}
+use Prim.Native.Nat.{_-_}
+use mathlib.Core.Bool.{Bool, true, false}
+use mathlib.Core.Path.{sym, _∙_}
 use native.Mathlib.Omega.{arith}
-use lib.ListN.{length, drop}
 use Rattle.token_store.specs.Layout.{slotCount}
-use Rattle.token_store.specs.Search.{any}
-use Rattle.token_store.specs.Store.{decode, freeSlot, holds}
-use Rattle.token_store.proofs.Searches.{any-next, any-stop, any-end}
-use Rattle.token_store.proofs.Codec.{length-slots}
+use Rattle.token_store.specs.Store.{holds}
+use Rattle.token_store.specs.declared.Slot.{Slot}
+use Rattle.token_store.proofs.Scans.{Scanned, slot-next, slot-stop, slot-end, any-answer}
 use Rattle.token_store.proofs.search.clashes.Statement.{statement}
 use Rattle.token_store.proofs.search.clashes.Tie as tie
 
 abbrev Inv-loop : tie.InvT-loop
-Inv-loop store handle i₀ i =
-    (i ≤ slotCount) × (any (holds handle) (drop i (decode store .slots)) ≡ any (holds handle) (decode store .slots))
+Inv-loop store handle i₀ i = Scanned (holds handle) store i
 
 abbrev μ-loop : tie.MeasureT-loop
 μ-loop store handle i₀ i = slotCount - i
 
--- the slot of a turn is one of the store's
-within : (c : tie.In-loop Inv-loop μ-loop) → c .before .loop .i < length (decode (c .before .before .before .before .args .store .now) .slots)
-within c = omega (arith, length-slots (c .before .before .before .before .args .store .now))
+abbrev start : tie.At-loop Inv-loop μ-loop → tie.Start Inv-loop μ-loop
+start l = l .before .before .before
+
+abbrev test : tie.Start Inv-loop μ-loop → Slot → Bool
+test s = holds (s .args .handle .now)
 
 returns : tie.Need-returns Inv-loop μ-loop
 returns c =
-    let a = c .before .before .before .before .before .before .args in
-    let p = holds (a .handle .now) in
-    let slots = decode (a .store .now) .slots in
-    let l = c .before .before .before .loop in
-    sym (any-stop p slots (l .i) freeSlot (within (c .before .before)) (sym (c .before .holds-handle .ensures) ∙ c .if1 .taken)) ∙ l .inv .1
+    let l = c .before .before .before in
+    slot-stop (test (start l)) (start l .args .store .now) (l .loop .i) (l .loop .inv) (λ i. true) false (omega arith)
+    (sym (c .before .holds-handle .ensures) ∙ c .if1 .taken)
+    ∙ any-answer (test (start l)) (start l .args .store .now)
 
 loop-again : tie.Need-loop-again Inv-loop μ-loop
 loop-again c =
-    let a = c .before .before .before .before .before .before .args in
-    let p = holds (a .handle .now) in
-    let slots = decode (a .store .now) .slots in
-    let l = c .before .before .before .loop in
-    let next = any-next p slots (l .i) freeSlot (within (c .before .before)) (sym (c .before .holds-handle .ensures) ∙ c .if1 .left) in
-    (omega arith, sym next ∙ l .inv .1)
+    let l = c .before .before .before in
+    slot-next (test (start l)) (start l .args .store .now) (l .loop .i) (l .loop .inv) (omega arith)
+    (sym (c .before .holds-handle .ensures) ∙ c .if1 .left)
 
 returns-2 : tie.Need-returns-2 Inv-loop μ-loop
 returns-2 c =
-    let a = c .before .before .before .before .args in
-    let p = holds (a .handle .now) in
-    let slots = decode (a .store .now) .slots in
-    let l = c .before .loop in
-    sym (any-end p slots (l .i) (omega (arith, length-slots (a .store .now)))) ∙ l .inv .1
+    let l = c .before in
+    slot-end (test (start l)) (start l .args .store .now) (l .loop .i) (l .loop .inv) (λ i. true) false (omega arith)
+    ∙ any-answer (test (start l)) (start l .args .store .now)
 
 pub clashes-spec : {M : Type 1} → statement M
 clashes-spec =
     tie.close
-    (tie.spec
-    Inv-loop
-    μ-loop
-    (λ c. search needs)
-    (λ c κs. search needs)
-    returns
-    (λ c. search needs)
-    (λ c. search needs)
-    loop-again
-    returns-2)
+    (tie.spec Inv-loop μ-loop (λ c. search needs) (λ c κs. search needs) returns (λ c. search needs) (λ c. search needs)
+    loop-again returns-2)

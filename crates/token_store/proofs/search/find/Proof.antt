@@ -1,63 +1,48 @@
--- None of the first i slots matches, so a search from slot i on finds what the whole search finds.
+-- A scan that stops at the first slot that matches.
 use borrow.Author.Needs.{needs}
-use Prim.Native.Nat.{_-_, _≤_, _<_}
-use mathlib.Core.Path.{_≡_, sym, _∙_}
+use Prim.Native.Nat.{_-_}
+use mathlib.Core.Bool.{Bool}
+use mathlib.Core.Path.{sym, _∙_}
 use native.Mathlib.Omega.{arith}
-use lib.ListN.{length, drop}
 use Rattle.token_store.specs.Layout.{slotCount}
-use Rattle.token_store.specs.Search.{indexFrom}
-use Rattle.token_store.specs.Store.{decode, freeSlot, soughtKey}
-use Rattle.token_store.proofs.Searches.{index-next, index-stop, index-end}
-use Rattle.token_store.proofs.Codec.{length-slots}
+use Rattle.token_store.specs.Store.{soughtKey}
+use Rattle.token_store.specs.declared.Slot.{Slot}
+use Rattle.token_store.specs.declared.Found.the-variants.{At, Nothing}
+use Rattle.token_store.proofs.Scans.{Scanned, slot-next, slot-stop, slot-end}
 use Rattle.token_store.proofs.search.find.Statement.{statement}
 use Rattle.token_store.proofs.search.find.Tie as tie
 
 abbrev Inv-loop : tie.InvT-loop
-Inv-loop store sought presented i₀ i =
-    (i ≤ slotCount) × (indexFrom (soughtKey sought presented) i (drop i (decode store .slots)) ≡ indexFrom (soughtKey sought presented) 0 (decode store .slots))
+Inv-loop store sought presented i₀ i = Scanned (soughtKey sought presented) store i
 
 abbrev μ-loop : tie.MeasureT-loop
 μ-loop store sought presented i₀ i = slotCount - i
 
--- the slot of a turn is one of the store's
-within : (c : tie.In-loop Inv-loop μ-loop) → c .before .loop .i < length (decode (c .before .before .before .args .store .now) .slots)
-within c = omega (arith, length-slots (c .before .before .before .args .store .now))
+abbrev start : tie.At-loop Inv-loop μ-loop → tie.Start Inv-loop μ-loop
+start l = l .before .before
+
+abbrev test : tie.Start Inv-loop μ-loop → Slot → Bool
+test s = soughtKey (s .args .sought) (s .args .presented)
 
 returns : tie.Need-returns Inv-loop μ-loop
 returns c =
-    let a = c .before .before .before .before .before .args in
-    let p = soughtKey (a .sought) (a .presented) in
-    let slots = decode (a .store .now) .slots in
-    let l = c .before .before .before .loop in
-    sym (index-stop p slots (l .i) freeSlot (within (c .before .before)) (sym (c .before .matches .ensures) ∙ c .if1 .taken)) ∙ l .inv .1
+    let l = c .before .before .before in
+    slot-stop (test (start l)) (start l .args .store .now) (l .loop .i) (l .loop .inv) At Nothing (omega arith)
+    (sym (c .before .matches .ensures) ∙ c .if1 .taken)
 
 loop-again : tie.Need-loop-again Inv-loop μ-loop
 loop-again c =
-    let a = c .before .before .before .before .before .args in
-    let p = soughtKey (a .sought) (a .presented) in
-    let slots = decode (a .store .now) .slots in
-    let l = c .before .before .before .loop in
-    let next = index-next p slots (l .i) freeSlot (within (c .before .before)) (sym (c .before .matches .ensures) ∙ c .if1 .left) in
-    (omega arith, sym next ∙ l .inv .1)
+    let l = c .before .before .before in
+    slot-next (test (start l)) (start l .args .store .now) (l .loop .i) (l .loop .inv) (omega arith)
+    (sym (c .before .matches .ensures) ∙ c .if1 .left)
 
 returns-2 : tie.Need-returns-2 Inv-loop μ-loop
 returns-2 c =
-    let a = c .before .before .before .args in
-    let p = soughtKey (a .sought) (a .presented) in
-    let slots = decode (a .store .now) .slots in
-    let l = c .before .loop in
-    sym (index-end p slots (l .i) (omega (arith, length-slots (a .store .now)))) ∙ l .inv .1
+    let l = c .before in
+    slot-end (test (start l)) (start l .args .store .now) (l .loop .i) (l .loop .inv) At Nothing (omega arith)
 
 pub find-spec : {M : Type 1} → statement M
 find-spec =
     tie.close
-    (tie.spec
-    Inv-loop
-    μ-loop
-    (λ c. search needs)
-    (λ c κs. search needs)
-    returns
-    (λ c. search needs)
-    (λ c. search needs)
-    loop-again
-    returns-2)
+    (tie.spec Inv-loop μ-loop (λ c. search needs) (λ c κs. search needs) returns (λ c. search needs) (λ c. search needs)
+    loop-again returns-2)

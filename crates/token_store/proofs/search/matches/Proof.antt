@@ -10,14 +10,17 @@ use Rattle.token_store.proofs.search.matches.Tie as tie
 returns : tie.Need-returns
 returns c =
     let a = c .before .before .before .args in
-    let e : isSought (a .sought) (slotOf (decode (a .store .now)) (a .i)) ≡ false = sym (c .before .is-sought .ensures) ∙ not-true _ (c .if1 .taken) in
+    let e : isSought (a .sought) (slotOf (decode (a .store .now)) (a .i)) ≡ false =
+    sym (c .before .is-sought .ensures) ∙ not-true _ (c .if1 .taken)
+    in
     rw e
 
 returns-2 : tie.Need-returns-2
 returns-2 c =
-    let a = c .before .before .before .before .before .before .before .args in
+    let tested = c .before .before .before .before in
+    let a = tested .before .before .before .args in
     let e : isSought (a .sought) (slotOf (decode (a .store .now)) (a .i)) ≡ true =
-    sym (c .before .before .before .before .before .is-sought .ensures) ∙ not-false _ (c .before .before .before .before .if1 .left)
+    sym (tested .before .is-sought .ensures) ∙ not-false _ (tested .if1 .left)
     in
     rw (e, c .before .has-handle .ensures)
 

@@ -12,9 +12,10 @@ use Rattle.token_store.proofs.write.clear.Tie as tie
 
 returns : tie.Need-returns
 returns c =
-    let s = c .before .before .before .before .before .before in
+    let cleared = c .before .before in
+    let s = cleared .before .before .before .before in
     let b = s .args .store .now in
-    ap decode (c .before .before .clear-at .ensures ∙ rw (c .before .before .before .slot-start .ensures))
+    ap decode (cleared .clear-at .ensures ∙ rw (cleared .before .slot-start .ensures))
     ∙ decode-put b (s .args .i) (replicate slotSize 0) (s .pre .0) (s .pre .1) (length-replicate {A = ℕ} slotSize 0)
     ∙ ap (withSlot (decode b) (s .args .i)) free-read
 

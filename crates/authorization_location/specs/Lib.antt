@@ -1,0 +1,2 @@
+-- authorization_location: the room that the parts of a location take.
+pub mod Rooms

@@ -1,0 +1,2 @@
+-- error_words: the table of the error words.
+pub mod Table

@@ -1,0 +1,112 @@
+-- Laws of the steps of a grant, and of what follows from a plan (protocol's Granting.antt).
+--
+-- In order: what the search for the client's own code or token says; room besides the slot of a live code; the two kinds of a
+-- code; what follows from a plan's reasons, where one applies and where none does.
+--
+-- Not here: how a list of reasons ends (protocol's `Reasons`).
+-- Assumes nothing.
+use mathlib.Core.Path.{_≡_, refl, sym, ap, _∙_}
+use mathlib.Core.Bool.{Bool, true, false, cond, _&&_}
+use mathlib.Core.List.{List}
+use Prim.Native.Nat.{ℕ, suc, _≤_}
+use native.Mathlib.Omega.{arith}
+use lib.Dec.{eqb, leb, lit≤, leb·suc-suc}
+use lib.ListN.{drop}
+use Rattle.octets.specs.Search.{bit, any, indexWhere}
+use Rattle.octets.proofs.Booleans.{and-left}
+use Rattle.octets.proofs.Counting.{count-replaceFirst}
+use Rattle.encoding.specs.declared.HandleText.{HandleText}
+use Rattle.token_store.specs.Store.{Store, withSlots, kindCode, kindBoundCode, kindLast, freeSlot, isLive, isVacant, soughtKey, foundAt, decode}
+use Rattle.token_store.specs.declared.Slot.{Slot}
+use Rattle.token_store.specs.declared.Sought.{Sought}
+use Rattle.token_store.specs.declared.Sought.the-variants.{Code as soughtCode}
+use Rattle.token_store.specs.declared.Found.{Found}
+use Rattle.token_store.specs.declared.Found.the-variants.{At, Nothing}
+use Rattle.token_store.proofs.Slots.{free-dead, free-vacant}
+use Rattle.token_store.proofs.Scans.{First as FirstSlot, found-first, found-none}
+use Rattle.protocol.specs.declared.Refusal.{Refusal}
+use Rattle.protocol.specs.declared.Decision.{Decision}
+use Rattle.protocol.specs.declared.Decision.the-variants.{Grant, Refuse}
+use Rattle.protocol.specs.Granting.{Plan, decisionOn, slotsBy, shownSlot, isOwn, room, withoutCode}
+use Rattle.protocol.proofs.Reasons.{First, first-counts}
+use Rattle.granting.specs.declared.Granted.{Granted}
+use Rattle.granting.specs.Granted.{refusedWith, grantedWith, grantedBy, Follows, ownAt}
+
+-- ---- the client's own
+
+-- what is presented is in slot i, live and the client's own
+pub record Own (t client : ℕ) (sought : Sought) (presented : HandleText) (slots : List Slot) (i : ℕ) : Type 0 where
+  pub first : FirstSlot (soughtKey sought presented) slots i
+  pub own : isOwn t client (shownSlot sought presented slots) ≡ true
+
+module _ (t client : ℕ) (sought : Sought) (presented : HandleText) (b : List ℕ) where
+  abbrev owned : Bool
+  owned = isOwn t client (shownSlot sought presented (decode b .slots))
+
+  abbrev place : Found
+  place = foundAt (indexWhere (soughtKey sought presented) (decode b .slots))
+
+  pub own-found : (i : ℕ) → At i ≡ ownAt t client sought presented (decode b .slots) → Own t client sought presented (decode b .slots) i
+  own-found i e = by owned refl e
+    where
+      by : (q : Bool) → owned ≡ q → At i ≡ cond q place Nothing → Own t client sought presented (decode b .slots) i
+      by true o e = record { first = found-first (soughtKey sought presented) b i (sym e); own = o }
+      by false o e = let z : _≡_ {A = ℕ} 0 1 = cc in absurd (omega arith)
+
+  -- the free slot that stands for none is nobody's
+  pub none-own : place ≡ Nothing → owned ≡ false
+  none-own e = rw (found-none (soughtKey sought presented) b e .taken, free-dead t)
+
+  pub own-none : Nothing ≡ ownAt t client sought presented (decode b .slots) → owned ≡ false
+  own-none e = by owned refl e
+    where
+      by : (q : Bool) → owned ≡ q → Nothing ≡ cond q place Nothing → owned ≡ false
+      by true o e = none-own (sym e)
+      by false o e = o
+
+-- ---- room: a live code's slot is not counted, and once it is cleared it is
+
+pub room-without : {t client i : ℕ} {presented : HandleText} {slots : List Slot} → Own t client soughtCode presented slots i
+    → leb 2 (room t (withoutCode presented slots)) ≡ leb 1 (room t slots)
+room-without {t} {client} {i} {presented} {slots} o =
+    let key : Slot → Bool = soughtKey soughtCode presented in
+    let code : Slot = shownSlot soughtCode presented slots in
+    let live : isLive t code ≡ true = and-left (isLive t code) (eqb (code .client) client) (o .own) in
+    let was : (any key slots && isVacant t code) ≡ false = rw (o .first .some, live) in
+    let is : (any key slots && isVacant t freeSlot) ≡ true = rw (o .first .some, free-vacant t) in
+    let more : room t (withoutCode presented slots) ≡ suc (room t slots) =
+    omega (arith, count-replaceFirst (isVacant t) key freeSlot freeSlot slots, ap bit was, ap bit is)
+    in
+    ap (leb 2) more ∙ leb·suc-suc 1 (room t slots)
+
+-- ---- the two kinds of a code are kinds
+
+pub code-kind-bound : (bound : Bool) → cond bound kindBoundCode kindCode ≤ kindLast
+code-kind-bound true = lit≤ tt
+code-kind-bound false = lit≤ tt
+
+-- ---- what follows from the reasons
+
+-- the first n of them are passed
+abbrev pub Past : ℕ → Plan → Decision → Type 0
+Past n plan d = First (drop n (plan .reasons)) d → First (plan .reasons) d
+
+module _ {plan : Plan} {before : Store} {r : Granted} where
+  pub refuses : {x : Refusal} → First (plan .reasons) (Refuse x) → r ≡ refusedWith x → before .slots ≡ plan .denied → Follows plan before r before
+  unfolding grantedBy slotsBy
+  refuses f a e = record { answer = rw (first-counts f) a; store = rw (first-counts f) (ap (withSlots before) e) }
+
+  pub grants : {after : Store} → First (plan .reasons) Grant → r ≡ grantedWith (plan .scope) (plan .bringsRefresh)
+      → after ≡ withSlots before (plan .granted)
+      → Follows plan before r after
+  unfolding grantedBy slotsBy
+  grants f a e = record { answer = rw (first-counts f) a; store = rw (first-counts f) e }
+
+-- what is decided, of what was granted
+pub follows-decision : {plan : Plan} {before : Store} {r : Granted} {after : Store} → Follows plan before r after → r .decision ≡ decisionOn plan
+unfolding grantedBy
+follows-decision {plan} {before} {r} {after} f = ap (λ (g : Granted). g .decision) (f .answer) ∙ by (decisionOn plan)
+  where
+    by : (d : Decision) → grantedBy d plan .decision ≡ d
+    by Grant = refl
+    by (Refuse refusal) = refl

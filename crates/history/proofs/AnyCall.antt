@@ -1,0 +1,222 @@
+-- What one call does, at whichever endpoint: it is refused with 1 to 4 and changes no byte, or it is served on the store that the
+-- bytes are read as (`take`).
+--
+-- In order: refusals 1 to 4; any call; what a call that is past them brings; a call that is served as the plan of its request.
+-- Assumes nothing.
+use mathlib.Core.Path.{_≡_, refl, sym, _∙_}
+use mathlib.Core.Bool.{Bool, true, false, cond, not, false≢true}
+use mathlib.Core.List.{List, [], _∷_}
+use Prim.Native.Nat.{ℕ, _≤_}
+use native.Mathlib.Omega.{arith}
+use borrow.Author.Tests.{ltb-false, eqb-true, not-false}
+use lib.Dec.{eqb, ltb, lit<}
+use lib.ListN.{length}
+use lib.Seq.{sets, take-all}
+use Rattle.encoding.specs.Hex.{readHandle}
+use Rattle.encoding.specs.declared.HandleText.{HandleText}
+use Rattle.client_registry.specs.Registry.{Client, fitRegistry, clientsOf}
+use Rattle.token_store.specs.Layout.{latestTime}
+use Rattle.token_store.specs.Store.{Store, isLive, encode, decode, callTime}
+use Rattle.token_store.specs.declared.Slot.{Slot}
+use Rattle.token_store.specs.declared.Sought.the-variants.{Access}
+use Rattle.protocol.specs.declared.ErrorWord.{ErrorWord}
+use Rattle.protocol.specs.declared.ErrorWord.the-variants.{InvalidRequest, InvalidClient, InvalidGrant, InvalidScope, UnsupportedGrantType, UnsupportedResponseType, AccessDenied, TemporarilyUnavailable, ServerError}
+use Rattle.protocol.specs.declared.Input.{Input}
+use Rattle.protocol.specs.declared.Input.the-variants.{Buffers, Registry, Store as StoreInput, Clock}
+use Rattle.protocol.specs.declared.Failure.{Failure}
+use Rattle.protocol.specs.declared.Failure.the-variants.{NoRoom, Clash}
+use Rattle.protocol.specs.declared.Refusal.the-variants.{Unfit, ErrorPage, Redirect, Token, Failed}
+use Rattle.protocol.specs.declared.Decision.{Decision}
+use Rattle.protocol.specs.declared.Decision.the-variants.{Grant, Refuse}
+use Rattle.protocol.specs.declared.Request.{Request}
+use Rattle.protocol.specs.declared.Request.the-variants.{Refused, Code, Exchange, Refresh}
+use Rattle.protocol.specs.declared.LiveToken.{LiveToken}
+use Rattle.protocol.specs.declared.CheckAnswer.the-variants.{NotLive, Live}
+use Rattle.protocol.specs.Limits.{leastOutput, codeRandom, tokenRandom}
+use Rattle.protocol.specs.Answers.{isGrant, statusOf, wordStatus, failureStatus}
+use Rattle.protocol.specs.Refusals.{Reason, firstOf}
+use Rattle.protocol.specs.Granting.{Plan, shownSlot, liveToken, refusedPlan, codePlan, exchangePlan, refreshPlan, planFor, planOf, decisionOn, slotsBy, slotsAfter, checkSlots}
+use Rattle.protocol.specs.Outcomes.{unfitReasons, Handed, Endpoint, Outcome, admit, outcomeBy, outcome, unfitBuffers, serveAuthorization, authorizationEndpoint, serveToken, tokenEndpoint, serveCheck, checkEndpoint, clockAlone}
+use Rattle.history.specs.Calls.{Call, authorization, token, check, handedTo, WellTyped, Answer, authorizationAnswer, tokenAnswer, checkAnswer, answering, outcomeOf, isUnfitRefusal, isUnfitDecision, isUnfitCheck, isUnfit}
+use Rattle.history.specs.Contents.{firstTwenty, lastTwenty, asked, isGranted, twenties}
+use Rattle.octets.proofs.Booleans.{or-none}
+use Rattle.protocol.proofs.Reasons.{unrefused, decided}
+use Rattle.history.proofs.Readings.{FitClients, TwoHandles, second-last, Brings, authorization-brings, token-brings}
+
+-- ---- calls over a store as a record, past refusals 1 to 4
+
+abbrev pub servedOn : {A : Type 0} → Endpoint A → List Client → Store → Handed → Outcome A
+servedOn endpoint clients g handed =
+    let t = callTime g (handed .clock) in
+    let served = endpoint .serve clients t (g .slots) (handed .random) in
+    record {
+      answer = served .answer;
+      output = sets (handed .output) 0 (served .text);
+      store = encode (record { time = t; slots = served .slots });
+    }
+
+unfoldable pub outcomeOn : List Client → Store → Call → Outcome Answer
+outcomeOn clients g (authorization query decision farm handed) =
+    answering authorizationAnswer (servedOn (authorizationEndpoint query decision farm) clients g handed)
+outcomeOn clients g (token header body handed) = answering tokenAnswer (servedOn (tokenEndpoint header body) clients g handed)
+outcomeOn clients g (check presented clock) = answering checkAnswer (servedOn (checkEndpoint presented) clients g (clockAlone clock))
+
+-- ---- refusals 1 to 4
+
+-- the call's buffers are unfit
+unfoldable pub unfitTo : Call → Bool
+unfitTo (authorization query decision farm handed) = unfitBuffers codeRandom (handed .random) (handed .output)
+unfitTo (token header body handed) = unfitBuffers tokenRandom (handed .random) (handed .output)
+unfitTo (check presented clock) = false
+
+-- it is past refusals 1 to 4
+abbrev pub isPast : List ℕ → List ℕ → Call → Bool
+isPast registry store c = isGrant (admit (unfitTo c) registry store (handedTo c .clock))
+
+-- a call's outcome is a refusal with 1 to 4, which leaves the store's bytes, or past these that of a call which is served
+pub data Taken (past : Bool) (store : List ℕ) (done served : Outcome Answer) : Type 0 where
+  unseen : past ≡ false → isUnfit (done .answer) ≡ true → done .store ≡ store → Taken past store done served
+  seen : past ≡ true → done ≡ served → Taken past store done served
+
+abbrev pub TakenCall : List ℕ → List ℕ → Call → Type 0
+TakenCall registry store c =
+    Taken (isPast registry store c) store (outcomeOf registry store c) (outcomeOn (clientsOf registry) (decode store) c)
+
+module _ {past : Bool} {store : List ℕ} {done served : Outcome Answer} where
+  pub seen-past : Taken past store done served → isUnfit (done .answer) ≡ false → (past ≡ true) × (done ≡ served)
+  seen-past (unseen n u s) fit = absurd (false≢true (sym fit ∙ u))
+  seen-past (seen p e) fit = (p, e)
+
+  pub past-seen : Taken past store done served → past ≡ true → done ≡ served
+  past-seen (unseen n u s) p = absurd (false≢true (sym n ∙ p))
+  past-seen (seen p e) q = e
+
+module _ (registry store : List ℕ) where
+  -- at any endpoint
+  take-at : {A : Type 0} (tag : A → Answer) (endpoint : Endpoint A) (handed : Handed)
+      → ((i : Input) → isUnfit (tag (endpoint .refuse (Unfit i))) ≡ true)
+      → Taken (isGrant (admit (endpoint .unfit handed) registry store (handed .clock))) store
+      (answering tag (outcome endpoint registry store handed)) (answering tag (servedOn endpoint (clientsOf registry) (decode store) handed))
+  unfolding outcome outcomeBy admit isGrant
+  take-at tag endpoint handed refuses =
+      decided P (unfitReasons (endpoint .unfit handed) registry store (handed .clock))
+      (refused Buffers, (refused Registry, (refused StoreInput, (refused Clock, tt)))) (λ _. seen refl refl)
+    where
+      P : Decision → Type 0
+      P d =
+          Taken (isGrant d) store (answering tag (outcomeBy endpoint registry store handed d))
+          (answering tag (servedOn endpoint (clientsOf registry) (decode store) handed))
+
+      refused : (i : Input) → P (Refuse (Unfit i))
+      refused i = unseen refl (refuses i) refl
+
+  pub take : (c : Call) → TakenCall registry store c
+  unfolding handedTo unfitTo outcomeOf outcomeOn isUnfit isUnfitDecision isUnfitCheck isUnfitRefusal
+  take (authorization query decision farm handed) = take-at authorizationAnswer (authorizationEndpoint query decision farm) handed (λ i. refl)
+  take (token header body handed) = take-at tokenAnswer (tokenEndpoint header body) handed (λ i. refl)
+  take (check presented clock) = take-at checkAnswer (checkEndpoint presented) (clockAlone clock) (λ i. refl)
+
+  -- ---- what a call that is past refusals 1 to 4 has
+
+  module _ (c : Call) (past : isPast registry store c ≡ true) where
+    abbrev reasons : List Reason
+    reasons = unfitReasons (unfitTo c) registry store (handedTo c .clock)
+
+    pub past-buffers : unfitTo c ≡ false
+    unfolding admit
+    past-buffers = unrefused reasons past 0 (lit< tt)
+
+    pub past-registry : fitRegistry registry ≡ true
+    unfolding admit
+    past-registry = not-false (fitRegistry registry) (unrefused reasons past 1 (lit< tt))
+
+    pub past-clock : handedTo c .clock ≤ latestTime
+    unfolding admit
+    past-clock = ltb-false latestTime (handedTo c .clock) (unrefused reasons past 3 (lit< tt))
+
+fit-size : (n : ℕ) (handed : Handed) → unfitBuffers n (handed .random) (handed .output) ≡ false → length (handed .random) ≡ n
+fit-size n handed e =
+    let sized = eqb (length (handed .random)) n in
+    eqb-true (length (handed .random)) n (not-false sized (or-none (ltb (length (handed .output)) leastOutput) (not sized) e .1))
+
+pub two-handles : (handed : Handed) → unfitBuffers tokenRandom (handed .random) (handed .output) ≡ false
+    → TwoHandles (handed .random) (firstTwenty (handed .random) ∷ lastTwenty (handed .random) ∷ [])
+two-handles handed e = let size = fit-size tokenRandom handed e in record { size = size; handles = rw (second-last (handed .random) size) }
+
+pub call-brings : (clients : List Client) → FitClients clients → (c : Call) → WellTyped c → unfitTo c ≡ false
+    → Brings (length clients) (handedTo c .random) (twenties c) (asked clients c .request)
+unfolding asked unfitTo handedTo twenties Brings isUnfitRefusal
+call-brings clients fit (authorization query decision farm handed) typed e =
+    let size = fit-size codeRandom handed e in
+    authorization-brings clients fit (record { size = size; handles = rw (take-all 20 (handed .random) (omega arith)) }) query decision farm typed
+call-brings clients fit (token header body handed) typed e = token-brings clients (two-handles handed e) header body
+call-brings clients fit (check presented clock) typed e = refl
+
+-- ---- a call that is served, as the plan of its request
+
+-- status 200 is a grant's alone
+word-status : (w : ErrorWord) → eqb (wordStatus w) 200 ≡ false
+word-status InvalidRequest = refl
+word-status InvalidClient = refl
+word-status InvalidGrant = refl
+word-status InvalidScope = refl
+word-status UnsupportedGrantType = refl
+word-status UnsupportedResponseType = refl
+word-status AccessDenied = refl
+word-status TemporarilyUnavailable = refl
+word-status ServerError = refl
+
+failure-status : (f : Failure) → eqb (failureStatus f) 200 ≡ false
+failure-status NoRoom = refl
+failure-status Clash = refl
+
+status-grant : (d : Decision) → eqb (statusOf d) 200 ≡ isGrant d
+unfolding isGrant
+status-grant Grant = refl
+status-grant (Refuse (Unfit i)) = refl
+status-grant (Refuse (ErrorPage p)) = refl
+status-grant (Refuse (Redirect w)) = refl
+status-grant (Refuse (Token w)) = word-status w
+status-grant (Refuse (Failed f)) = failure-status f
+
+-- what is decided is no refusal with 1 to 4
+plan-fit : (clients : ℕ) (twenties : List (List ℕ)) (t : ℕ) (slots : List Slot) (random : List ℕ) (p : HandleText) (request : Request)
+    → Brings clients random twenties request → isUnfitDecision (decisionOn (planFor t slots random p request)) ≡ false
+unfolding planFor refusedPlan codePlan exchangePlan refreshPlan Brings isUnfitDecision isUnfitRefusal
+plan-fit clients twenties t slots random p (Refused r) q = decided (λ d. isUnfitDecision d ≡ false) _ (q, tt) (λ _. refl)
+plan-fit clients twenties t slots random p (Code r) q = decided (λ d. isUnfitDecision d ≡ false) _ (refl, (refl, tt)) (λ _. refl)
+plan-fit clients twenties t slots random p (Exchange r) q = decided (λ d. isUnfitDecision d ≡ false) _ (refl, (refl, (refl, (refl, tt)))) (λ _. refl)
+plan-fit clients twenties t slots random p (Refresh r) q = decided (λ d. isUnfitDecision d ≡ false) _ (refl, (refl, (refl, (refl, tt)))) (λ _. refl)
+
+live-fit : (b : Bool) (l : LiveToken) → isUnfitCheck (cond b (Live l) NotLive) ≡ false
+unfolding isUnfitCheck
+live-fit true l = refl
+live-fit false l = refl
+
+module _ (clients : List Client) (g : Store) where
+  abbrev pub planOn : Call → Plan
+  planOn c = planOf (callTime g (handedTo c .clock)) (g .slots) (handedTo c .random) (asked clients c)
+
+  -- the store that it leaves
+  abbrev pub leftBy : Call → Store
+  leftBy c = record { time = callTime g (handedTo c .clock); slots = slotsAfter (planOn c) }
+
+  pub store-on : (c : Call) → outcomeOn clients g c .store ≡ encode (leftBy c)
+  unfolding outcomeOn asked handedTo serveAuthorization serveToken serveCheck planFor refusedPlan slotsBy firstOf
+  store-on (authorization query decision farm handed) = refl
+  store-on (token header body handed) = refl
+  store-on (check presented clock) = refl
+
+  pub granted-on : (c : Call) → isGranted (outcomeOn clients g c .answer) ≡ isGrant (decisionOn (planOn c))
+  unfolding outcomeOn asked handedTo serveAuthorization serveToken isGranted isGrant planFor refusedPlan firstOf
+  granted-on (authorization query decision farm handed) = refl
+  granted-on (token header body handed) = status-grant (decisionOn (planOn (token header body handed)))
+  granted-on (check presented clock) = refl
+
+  pub fit-on : (c : Call) → Brings (length clients) (handedTo c .random) (twenties c) (asked clients c .request)
+      → isUnfit (outcomeOn clients g c .answer) ≡ false
+  unfolding outcomeOn asked handedTo serveAuthorization serveToken serveCheck isUnfit checkSlots
+  fit-on (authorization query decision farm handed) q = plan-fit (length clients) _ _ (g .slots) (handed .random) _ _ q
+  fit-on (token header body handed) q = plan-fit (length clients) _ _ (g .slots) (handed .random) _ _ q
+  fit-on (check presented clock) q =
+      let s = shownSlot Access (readHandle presented) (g .slots) in live-fit (isLive (callTime g clock) s) (liveToken (callTime g clock) s)

@@ -1,0 +1,253 @@
+-- One request at the store: what it has if it is granted, that it keeps the invariant (`request-kept`), and that it is granted, and a
+-- check passes, exactly when the calls contain what the claim asks (`exchange-answer`, `refresh-answer`, `check-passes`).
+--
+-- In order: which reasons did not apply; the slots of what is issued; each request that is granted; any request; room; no handle that
+-- comes once is in use; the claim's tests of an exchange, a refresh and a check.
+--
+-- `slots` are the store's at the time t, `standing` what stands by the calls, `seen` the random bytes that came with them.
+-- Assumes nothing.
+use mathlib.Core.Path.{_≡_, refl, sym, ap, ap₂, _∙_}
+use mathlib.Core.Bool.{Bool, true, false, cond, _&&_, false≢true, not, _||_, and-assoc, and-true, Bool·not-not}
+use mathlib.Core.List.{List, _∷_, _++_, List·Memᴰ}
+use Prim.Native.Nat.{ℕ, _≤_, _+_, _-_}
+use native.Mathlib.Omega.{arith}
+use borrow.Author.Tests.{leb-true, not-false, leb-false, le-leb, lt-leb}
+use lib.Dec.{leb, eqb, lit<}
+use Rattle.octets.specs.Lists.{same, every}
+use Rattle.octets.proofs.Booleans.{and-left}
+use Rattle.octets.proofs.Lists.{same-refl}
+use Rattle.encoding.specs.declared.HandleText.{HandleText}
+use Rattle.octets.specs.Search.{count, bit, any}
+use Rattle.token_store.specs.Store.{issue, isLive, isBoundCode, holds}
+use Rattle.token_store.specs.declared.Slot.{Slot}
+use Rattle.token_store.specs.declared.Sought.the-variants.{Code as soughtCode, Refresh as soughtRefresh, Access as soughtAccess}
+use Rattle.token_store.specs.Layout.{slotCount}
+use Rattle.protocol.specs.declared.Decision.{Decision}
+use Rattle.protocol.specs.declared.Decision.the-variants.{Grant, Refuse}
+use Rattle.protocol.specs.declared.ScopeAsked.{ScopeAsked}
+use Rattle.protocol.specs.declared.ScopeAsked.the-variants.{Everything, Only, Unreadable}
+use Rattle.protocol.specs.declared.CodeRequest.{CodeRequest}
+use Rattle.protocol.specs.declared.ExchangeRequest.{ExchangeRequest}
+use Rattle.protocol.specs.declared.RefreshRequest.{RefreshRequest}
+use Rattle.protocol.specs.declared.Request.{Request}
+use Rattle.protocol.specs.declared.Request.the-variants.{Refused, Code, Exchange, Refresh}
+use Rattle.protocol.specs.declared.CheckAnswer.the-variants.{NotLive, Live}
+use Rattle.protocol.specs.Answers.{isGrant}
+use Rattle.protocol.specs.Requests.{scopeGiven, fits}
+use Rattle.protocol.specs.Granting.{Plan, firstHandle, secondHandle, shownSlot, withoutCode, room, newCode, refusedPlan, codePlan, exchangePlan, refreshPlan, planFor, decisionOn, slotsBy, slotsAfter, isTaken, anyTaken, liveToken, checkSlots}
+use Rattle.protocol.proofs.Reasons.{grant-every, unrefused}
+use Rattle.history.specs.Contents.{code, access, refresh, Issue, isLiveAt, codeIssue, tokenIssue, askedOr, lastTwenty, originOf, issuedBy, isEndedBy, afterGrant, NeverTwice, isA, isOf, isWithinGranted}
+use Rattle.history.specs.Claim.{mayExchange, mayRefresh, mayPass, isLiveCheck, roomToExchange, roomToRefresh}
+use Rattle.octets.proofs.Counting.{bit-le, count-append, keep-all, bit-none, any-count, count-keep}
+use Rattle.history.proofs.HeldIssues.{held, held-live, held-key, held-bound}
+use Rattle.history.proofs.Invariant.{Invariant, invariant-seen, invariant-issue, room-left, origin, withdrawn, contained, found}
+use Rattle.history.proofs.Readings.{second-last, Brings, AskedSet, within-granted}
+
+-- ---- what is granted
+
+module _ (t : ℕ) (slots : List Slot) (random : List ℕ) (p : HandleText) where
+  abbrev pub Granted : Request → Type 0
+  Granted request = isGrant (decisionOn (planFor t slots random p request)) ≡ true
+
+  own-live : (client : ℕ) (s : Slot) → (isLive t s && eqb (s .client) client) ≡ true → isLive t s ≡ true
+  own-live client s = and-left (isLive t s) (eqb (s .client) client)
+
+  code-room : (r : CodeRequest) → Granted (Code r) → 1 ≤ room t slots
+  unfolding planFor codePlan
+  code-room r e = leb-true 1 (room t slots) (not-false _ (unrefused (codePlan t slots random r .reasons) e 0 (lit< tt)))
+
+  -- what is presented is live, and there is room
+  pub exchange-has : (r : ExchangeRequest) → Granted (Exchange r)
+      → (isLive t (shownSlot soughtCode p slots) ≡ true) × (2 ≤ room t (withoutCode p slots))
+  unfolding planFor exchangePlan
+  exchange-has r e =
+      let no = unrefused (exchangePlan t slots random p r .reasons) e in (
+        own-live (r .client) (shownSlot soughtCode p slots) (not-false _ (no 0 (lit< tt))),
+        leb-true 2 (room t (withoutCode p slots)) (not-false _ (no 2 (lit< tt))),
+      )
+
+  pub refresh-has : (r : RefreshRequest) → Granted (Refresh r) → (isLive t (shownSlot soughtRefresh p slots) ≡ true) × (1 ≤ room t slots)
+  unfolding planFor refreshPlan
+  refresh-has r e =
+      let no = unrefused (refreshPlan t slots random p r .reasons) e in (
+        own-live (r .client) (shownSlot soughtRefresh p slots) (not-false _ (no 0 (lit< tt))),
+        leb-true 1 (room t slots) (not-false _ (no 2 (lit< tt))),
+      )
+
+  -- a refusal leaves the slots
+  pub denied-slots : (request : Request) → planFor t slots random p request .denied ≡ slots
+  unfolding planFor refusedPlan codePlan exchangePlan refreshPlan
+  denied-slots (Refused r) = refl
+  denied-slots (Code r) = refl
+  denied-slots (Exchange r) = refl
+  denied-slots (Refresh r) = refl
+
+-- ---- the slots of what is issued
+
+code-slot : (t : ℕ) (handle : List ℕ) (r : CodeRequest) → newCode t handle r ≡ held (codeIssue t handle r)
+code-slot t handle r = by (r .bound)
+  where
+    by : (b : Bool) → newCode t handle (record { client = r .client; farm = r .farm; scope = r .scope; bound = b })
+        ≡ held (codeIssue t handle (record { client = r .client; farm = r .farm; scope = r .scope; bound = b }))
+    by true = refl
+    by false = refl
+
+pub given-asked : (asked : ScopeAsked) (set : ℕ) → scopeGiven asked set ≡ askedOr asked set
+unfolding scopeGiven askedOr
+given-asked Everything set = refl
+given-asked (Only s) set = refl
+given-asked Unreadable set = refl
+
+two-issues : {t : ℕ} {slots : List Slot} {standing : List Issue} {seen : List (List ℕ)} (x y : Issue)
+    → Invariant t slots standing seen → 2 ≤ room t slots
+    → Invariant t (issue t (held y) (issue t (held x) slots)) (y ∷ x ∷ standing) (x .handle ∷ y .handle ∷ seen)
+unfolding count
+two-issues {t} {seen = seen} x y v h =
+    let w = invariant-issue v x (omega arith) in
+    let both = invariant-issue w y (omega (arith, room-left v, room-left w, bit-le (isLiveAt t x))) in
+    invariant-seen both (x .handle ∷ y .handle ∷ seen) (λ k. omega arith)
+
+-- ---- each request keeps the invariant
+
+module _ {t : ℕ} {slots : List Slot} {standing : List Issue} {seen : List (List ℕ)} (v : Invariant t slots standing seen) (once : NeverTwice seen)
+    (clients : ℕ) (random : List ℕ) (twenties : List (List ℕ)) (p : HandleText) where
+  abbrev plan : Request → Plan
+  plan request = planFor t slots random p request
+
+  abbrev after : Request → List Issue
+  after request = afterGrant t standing random (record { request = request; presented = p })
+
+  granted-kept : (request : Request) → Brings clients random twenties request → Granted t slots random p request
+      → Invariant t (plan request .granted) (after request) (twenties ++ seen)
+  unfolding planFor refusedPlan codePlan exchangePlan refreshPlan afterGrant issuedBy isEndedBy Brings count
+  granted-kept (Refused r) q e = absurd (false≢true (sym (unrefused (refusedPlan t slots random r .reasons) e 0 (lit< tt))))
+  granted-kept (Code r) q e =
+      rw (q .0 .handles, keep-all, code-slot t (firstHandle random) r)
+      (invariant-issue v (codeIssue t (firstHandle random) r) (code-room t slots random p r e))
+  granted-kept (Exchange r) q e =
+      let o = originOf code p standing in
+      let has = exchange-has t slots random p r e in
+      rw (q .handles, ← (origin v once code p (has .0)), second-last random (q .size))
+      (two-issues (tokenIssue access t (firstHandle random) o (o .scope)) (tokenIssue refresh t (lastTwenty random) o (o .scope))
+      (withdrawn v once code p) (has .1))
+  granted-kept (Refresh r) q e =
+      let o = originOf refresh p standing in
+      let has = refresh-has t slots random p r e in
+      rw (q .0 .handles, ← (origin v once refresh p (has .0)), keep-all, given-asked)
+      (invariant-seen (invariant-issue v (tokenIssue access t (firstHandle random) o (askedOr (r .scope) (o .scope))) (has .1)) _ (λ k. omega arith))
+
+  pub request-kept : (request : Request) → Brings clients random twenties request
+      → Invariant t (slotsAfter (plan request)) (cond (isGrant (decisionOn (plan request))) (after request) standing) (twenties ++ seen)
+  unfolding slotsBy isGrant
+  request-kept request q = by (decisionOn (plan request)) (granted-kept request q)
+    where
+      by : (d : Decision) → (isGrant d ≡ true → Invariant t (plan request .granted) (after request) (twenties ++ seen))
+          → Invariant t (slotsBy d (plan request)) (cond (isGrant d) (after request) standing) (twenties ++ seen)
+      by Grant f = f refl
+      by (Refuse r) f =
+          rw (denied-slots t slots random p request)
+          (invariant-seen v (twenties ++ seen) (λ h. omega (arith, count-append (same h) twenties seen)))
+
+-- ---- room
+
+-- room for k by the slots is room for k by the issues
+leb-room : (k v u : ℕ) → v + u ≡ slotCount → leb k v ≡ leb (u + k) slotCount
+leb-room k v u e = by (leb k v) refl
+  where
+    by : (b : Bool) → leb k v ≡ b → b ≡ leb (u + k) slotCount
+    by true q = sym (le-leb (u + k) slotCount (omega (arith, leb-true k v q)))
+    by false q = sym (lt-leb (u + k) slotCount (omega (arith, leb-false k v q)))
+
+not-or : (a b : Bool) → not (a && not b) ≡ (not a || b)
+not-or true b = Bool·not-not b
+not-or false b = refl
+
+-- four reasons, of which the last does not apply, as the claim's tests: live, of the client, and m; and room
+four-tests : (l c m r : Bool) {n x : Bool} → n ≡ m → x ≡ false
+    → (not (not (l && c)) && (n && (not (not r) && (not x && true)))) ≡ (l && (c && m) && r)
+four-tests l c m r p q = rw (p, q) (simp (Bool·not-not, and-true, and-assoc))
+
+module _ {t : ℕ} {slots : List Slot} {standing : List Issue} {seen : List (List ℕ)} (v : Invariant t slots standing seen) (once : NeverTwice seen)
+    (p : HandleText) where
+  -- ---- no handle that comes once is in use
+
+  unused : (h : List ℕ) → count (same h) seen ≤ 0 → isTaken h slots ≡ false
+  unused h e = any-count (holds h) false slots (omega (arith, v .inSlots h))
+
+  module _ (random : List ℕ) (new : NeverTwice (firstHandle random ∷ secondHandle random ∷ seen)) where
+    first-unused : isTaken (firstHandle random) slots ≡ false
+    unfolding count
+    first-unused = let a = firstHandle random in unused a (omega (arith, new a, ap bit (same-refl a)))
+
+    none-taken : anyTaken (firstHandle random) (secondHandle random) slots ≡ false
+    unfolding count
+    none-taken =
+        let a = firstHandle random in
+        let b = secondHandle random in
+        rw (first-unused, unused b (omega (arith, new b, ap bit (same-refl b))))
+        (bit-none (same a b) (omega (arith, new a, ap bit (same-refl a))))
+
+    -- ---- what each request is answered
+
+    pub exchange-answer : (r : ExchangeRequest) → isGrant (decisionOn (planFor t slots random p (Exchange r))) ≡ mayExchange t standing p r
+    unfolding mayExchange planFor exchangePlan every
+    exchange-answer r =
+        grant-every (exchangePlan t slots random p r .reasons)
+        ∙ four-tests (isLive t s) (eqb (s .client) (r .client)) (not (isBoundCode s) || r .again) _ (not-or (isBoundCode s) (r .again)) none-taken
+        ∙ ap₂ _&&_ (sym there) space
+      where
+        s : Slot
+        s = shownSlot soughtCode p slots
+
+        there : any (λ e. isLiveAt t e && (isA code e && isOf p e && (eqb (e .client) (r .client) && (not (e .bound) || r .again)))) standing
+            ≡ (isLive t s && (eqb (s .client) (r .client) && (not (isBoundCode s) || r .again)))
+        there =
+            contained v once code p (λ x. eqb (x .client) (r .client) && (not (isBoundCode x) || r .again)) _
+            (λ e. ap (λ (b : Bool). isLiveAt t e && b) (held-bound p (λ b. eqb (e .client) (r .client) && (not b || r .again)) e))
+
+        space : leb 2 (room t (withoutCode p slots)) ≡ roomToExchange t standing p
+        space =
+            leb-room 2 (room t (withoutCode p slots)) _ (room-left (withdrawn v once code p))
+            ∙ ap (λ (k : ℕ). leb (k + 2) slotCount) (count-keep (isLiveAt t) (λ e. not (isA code e && isOf p e)) standing)
+
+    pub refresh-answer : (r : RefreshRequest) → AskedSet (r .scope)
+        → isGrant (decisionOn (planFor t slots random p (Refresh r))) ≡ mayRefresh t standing p r
+    unfolding mayRefresh planFor refreshPlan every
+    refresh-answer r asked =
+        grant-every (refreshPlan t slots random p r .reasons)
+        ∙ four-tests (isLive t s) (eqb (s .client) (r .client)) (fits (r .scope) (s .scope)) _ (Bool·not-not _) first-unused
+        ∙ ap₂ _&&_ (sym there) space
+      where
+        s : Slot
+        s = shownSlot soughtRefresh p slots
+
+        there : any (λ e. isLiveAt t e && (isA refresh e && isOf p e && (eqb (e .client) (r .client) && isWithinGranted (r .scope) (e .scope))))
+            standing
+            ≡ (isLive t s && (eqb (s .client) (r .client) && fits (r .scope) (s .scope)))
+        there =
+            contained v once refresh p (λ x. eqb (x .client) (r .client) && fits (r .scope) (x .scope)) _
+            (λ e. rw (held-key p refresh e, within-granted (r .scope) asked (e .scope)))
+
+        space : leb 1 (room t slots) ≡ roomToRefresh t standing
+        space = leb-room 1 (room t slots) (count (isLiveAt t) standing) (room-left v)
+
+  -- ---- the check
+
+  pub check-passes : isLiveCheck (checkSlots t slots p) ≡ mayPass t standing p
+  unfolding checkSlots mayPass isLiveCheck
+  check-passes = by (isLive t s) ∙ sym (and-true (isLive t s)) ∙ sym there
+    where
+      s : Slot
+      s = shownSlot soughtAccess p slots
+
+      by : (b : Bool) → isLiveCheck (cond b (Live (liveToken t s)) NotLive) ≡ b
+      by true = refl
+      by false = refl
+
+      there : any (λ e. isLiveAt t e && (isA access e && isOf p e)) standing ≡ (isLive t s && true)
+      there = contained v once access p (λ x. true) _ (λ e. rw (and-true, held-key p access e))
+
+  pub check-names : (e : Issue) → List·Memᴰ e standing → isLiveAt t e ≡ true → (isA access e && isOf p e) ≡ true
+      → checkSlots t slots p ≡ Live (record { client = e .client; farm = e .farm; scope = e .scope; left = e .expiry - t })
+  unfolding checkSlots
+  check-names e m live here = rw (found v once access p e m live here, held-live t e ∙ live)

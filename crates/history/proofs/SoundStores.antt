@@ -1,0 +1,197 @@
+-- The store after each call is the bytes of a store whose slots fit, so that refusal 3 never comes and the next call reads what the
+-- last one left.
+--
+-- In order: a slot that fits and is fit; a store of such slots, its bytes and the fresh store; a request leaves such a store
+-- (`sound-after`).
+-- Assumes nothing.
+use mathlib.Core.Path.{_≡_, refl, sym, ap, _∙_}
+use mathlib.Core.Bool.{Bool, true, false, cond}
+use mathlib.Core.List.{List, [], _∷_, map}
+use Prim.Native.Nat.{ℕ, zero, suc, _+_, _*_, _^_, _≤_, _<_}
+use native.Mathlib.Omega.{arith}
+use lib.Dec.{ltb, lit<, lit≤}
+use lib.ListN.{length, take, drop, getD, replicate, length-drop, length-replicate}
+use lib.Seq.{drop-at, drop-drop, length-take-le}
+use Rattle.octets.specs.Lists.{part}
+use Rattle.octets.specs.BigEndian.{bigEndianBytes}
+use Rattle.octets.proofs.BigEndian.{length-be-bytes}
+use Rattle.octets.proofs.Booleans.{and-left}
+use Rattle.encoding.specs.declared.HandleText.{HandleText}
+use Rattle.token_store.specs.Layout.{timeSize, slotCount, handleSize, expirySize, slotSize, storeSize, slotStart, latestTime}
+use Rattle.octets.specs.Search.{firstOr}
+use Rattle.token_store.specs.Store.{issue, Store, SlotFits, kindRefresh, isUsed, isLive, isVacant, freeSlot, fresh, concat, encodeSlot, encode, decode, soughtKey}
+use Rattle.token_store.specs.Fit.{fitSlot, fitStore}
+use Rattle.token_store.specs.declared.Slot.{Slot}
+use Rattle.token_store.specs.declared.Sought.{Sought}
+use Rattle.token_store.specs.declared.Sought.the-variants.{Code as soughtCode, Refresh as soughtRefresh}
+use Rattle.octets.proofs.Searches.{each-every, replaceFirst-each}
+use Rattle.token_store.proofs.Slots.{free-fits}
+use Rattle.token_store.proofs.Codec.{encode-decode, decode-encode, decode-fresh}
+use Rattle.token_store.proofs.Fits.{fit-used, used-fit, fit-free, fit-encode}
+use Rattle.protocol.specs.declared.Decision.{Decision}
+use Rattle.protocol.specs.declared.Decision.the-variants.{Grant, Refuse}
+use Rattle.protocol.specs.declared.CodeRequest.{CodeRequest}
+use Rattle.protocol.specs.declared.Request.{Request}
+use Rattle.protocol.specs.declared.Request.the-variants.{Refused, Code, Exchange, Refresh}
+use Rattle.protocol.specs.Answers.{isGrant}
+use Rattle.protocol.specs.Granting.{Plan, firstHandle, shownSlot, newCode, refusedPlan, codePlan, exchangePlan, refreshPlan, planFor, decisionOn, slotsBy, slotsAfter}
+use Rattle.octets.proofs.Counting.{length-replaceFirst}
+use Rattle.history.proofs.Readings.{FieldsFit, scope-given, Brings}
+use Rattle.history.proofs.OneRequest.{Granted, exchange-has, refresh-has, denied-slots}
+
+-- ---- a slot
+
+pub record SoundSlot (clients : ℕ) (s : Slot) : Type 0 where
+  pub fits : SlotFits s
+  pub fit : fitSlot clients s ≡ true
+
+sound-free : (clients : ℕ) → SoundSlot clients freeSlot
+sound-free clients = record { fits = free-fits; fit = fit-free clients }
+
+module _ (clients : ℕ) (s : Slot) (used : isUsed s ≡ true) where
+  sound-used : clients ≤ 64 → s .kind ≤ kindRefresh → length (s .handle) ≡ handleSize → s .expiry < 256 ^ expirySize
+      → FieldsFit clients (s .client) (s .farm) (s .scope) → SoundSlot clients s
+  sound-used few kind handle expiry f = record {
+    fits = record {
+      kind = omega arith;
+      handle = handle;
+      client = omega (arith, f .client);
+      farm = omega (arith, f .wide);
+      scope = omega (arith, f .scope .byte);
+      expiry = expiry;
+    };
+    fit = used-fit clients s used (record { kind = kind; client = f .client; scope = f .scope .some });
+  }
+
+  used-fields : SoundSlot clients s → FieldsFit clients (s .client) (s .farm) (s .scope)
+  used-fields w =
+      let u = fit-used clients s used (w .fit) in
+      record {
+        client = u .client;
+        wide = omega (arith, w .fits .farm);
+        scope = record { some = u .scope; byte = omega (arith, w .fits .scope) };
+      }
+
+-- ---- a store
+
+abbrev AllSound : ℕ → List Slot → Type 0
+AllSound clients slots = (k : ℕ) → SoundSlot clients (getD slots k freeSlot)
+
+pub record Sound (clients : ℕ) (g : Store) : Type 0 where
+  pub size : length (g .slots) ≡ slotCount
+  pub early : g .time ≤ latestTime
+  pub slots : AllSound clients (g .slots)
+
+module _ {clients : ℕ} (g : Store) (w : Sound clients g) where
+  pub sound-back : decode (encode g) ≡ g
+  sound-back = decode-encode g (w .size) (omega (arith, w .early)) (λ k. w .slots k .fits)
+
+  pub sound-fit : fitStore clients (encode g) ≡ true
+  sound-fit =
+      fit-encode clients g (w .size) (w .early) (λ k. w .slots k .fits)
+      (each-every (fitSlot clients) freeSlot (g .slots) (λ k. w .slots k .fit))
+
+pub slots-same : (g h : Store) → g .slots ≡ h .slots → (i : ℕ) → part (encode g) (slotStart i) slotSize ≡ part (encode h) (slotStart i) slotSize
+unfolding encode
+slots-same g h e i = behind g ∙ ap (λ (l : List Slot). part (concat (map encodeSlot l)) (i * slotSize) slotSize) e ∙ sym (behind h)
+  where
+    behind : (s : Store) → part (encode s) (timeSize + i * slotSize) slotSize ≡ part (concat (map encodeSlot (s .slots))) (i * slotSize) slotSize
+    behind s =
+        ap (λ (l : List ℕ). take slotSize l)
+        (sym (drop-drop (i * slotSize) timeSize (encode s))
+        ∙ ap (λ (l : List ℕ). drop (i * slotSize) l)
+        (drop-at (bigEndianBytes timeSize (s .time)) (concat (map encodeSlot (s .slots))) timeSize (length-be-bytes timeSize (s .time))))
+
+-- ---- the fresh store
+
+each-replicate : {A : Type 0} (P : A → Type 0) (a : A) (n k : ℕ) → P a → P (getD (replicate n a) k a)
+each-replicate P a zero k p = p
+each-replicate P a (suc n) zero p = p
+each-replicate P a (suc n) (suc k) p = each-replicate P a n k p
+
+pub sound-fresh : (clients : ℕ) → Sound clients fresh
+unfolding fresh
+sound-fresh clients = record {
+  size = length-replicate slotCount freeSlot;
+  early = omega arith;
+  slots = λ k. each-replicate (SoundSlot clients) freeSlot slotCount k (sound-free clients);
+}
+
+encode-zeros : (n : ℕ) → n ≡ storeSize → encode (decode (replicate n 0)) ≡ replicate n 0
+encode-zeros n e = encode-decode (replicate n 0) (length-replicate n 0 ∙ e) (λ k. each-replicate (λ (b : ℕ). b < 256) 0 n k (lit< tt))
+
+pub encode-fresh : replicate storeSize 0 ≡ encode fresh
+encode-fresh = sym (encode-zeros storeSize refl) ∙ ap encode decode-fresh
+
+-- ---- what is issued fits
+
+found-sound : {clients : ℕ} (p : Slot → Bool) (slots : List Slot) → AllSound clients slots → SoundSlot clients (firstOr freeSlot p slots)
+unfolding firstOr
+found-sound p [] w = w 0
+found-sound {clients} p (s ∷ slots) w = by (p s) (found-sound p slots (λ k. w (suc k)))
+  where
+    by : (b : Bool) → SoundSlot clients (firstOr freeSlot p slots) → SoundSlot clients (cond b s (firstOr freeSlot p slots))
+    by true r = w 0
+    by false r = r
+
+module _ {clients : ℕ} (few : clients ≤ 64) {t : ℕ} (early : t ≤ latestTime) (random : List ℕ) (twenties : List (List ℕ)) (p : HandleText)
+    (g : Store) (w : Sound clients g) where
+  abbrev slots : List Slot
+  slots = g .slots
+
+  shown-fields : (q : Sought) → let s = shownSlot q p slots in isLive t s ≡ true → FieldsFit clients (s .client) (s .farm) (s .scope)
+  shown-fields q live =
+      let s = shownSlot q p slots in
+      used-fields clients s (and-left (isUsed s) (ltb t (s .expiry)) live) (found-sound (soughtKey q p) slots (w .slots))
+
+  code-sound : (r : CodeRequest) → 20 ≤ length random → FieldsFit clients (r .client) (r .farm) (r .scope)
+      → SoundSlot clients (newCode t (firstHandle random) r)
+  code-sound r h f = by (r .bound)
+    where
+      by : (b : Bool)
+          → SoundSlot clients (newCode t (firstHandle random) (record { client = r .client; farm = r .farm; scope = r .scope; bound = b }))
+      by true = sound-used clients _ refl few (lit≤ tt) (length-take-le handleSize random h) (omega arith) f
+      by false = sound-used clients _ refl few (lit≤ tt) (length-take-le handleSize random h) (omega arith) f
+
+  issue-each : (s : Slot) (l : List Slot) → SoundSlot clients s → AllSound clients l → AllSound clients (issue t s l)
+  issue-each s l new old = replaceFirst-each (isVacant t) freeSlot (SoundSlot clients) s new l old
+
+  granted-each : (request : Request) → Brings clients random twenties request → Granted t slots random p request
+      → AllSound clients (planFor t slots random p request .granted)
+  unfolding planFor refusedPlan codePlan exchangePlan refreshPlan Brings
+  granted-each (Refused r) q e = w .slots
+  granted-each (Code r) q e = issue-each _ slots (code-sound r (omega (arith, q .0 .size)) (q .1)) (w .slots)
+  granted-each (Exchange r) q e =
+      let f = shown-fields soughtCode (exchange-has t slots random p r e .0) in
+      let a = length-take-le handleSize random (omega (arith, q .size)) in
+      let b = length-take-le handleSize (drop handleSize random) (simp length-drop (omega (arith, q .size))) in
+      issue-each _ _ (sound-used clients _ refl few (lit≤ tt) b (omega arith) f)
+      (issue-each _ _ (sound-used clients _ refl few (lit≤ tt) a (omega arith) f)
+      (replaceFirst-each (soughtKey soughtCode p) freeSlot (SoundSlot clients) freeSlot (sound-free clients) slots (w .slots)))
+  granted-each (Refresh r) q e =
+      let s = shownSlot soughtRefresh p slots in
+      let f = shown-fields soughtRefresh (refresh-has t slots random p r e .0) in
+      let a = length-take-le handleSize random (omega (arith, q .0 .size)) in
+      issue-each _ slots
+      (sound-used clients _ refl few (lit≤ tt) a (omega arith)
+      (record { client = f .client; wide = f .wide; scope = scope-given (r .scope) (s .scope) (q .1) (f .scope) })) (w .slots)
+
+  granted-size : (request : Request) → length (planFor t slots random p request .granted) ≡ length slots
+  unfolding planFor refusedPlan codePlan exchangePlan refreshPlan
+  granted-size (Refused r) = refl
+  granted-size (Code r) = simp length-replaceFirst
+  granted-size (Exchange r) = simp length-replaceFirst
+  granted-size (Refresh r) = simp length-replaceFirst
+
+  -- a request leaves a sound store
+  pub sound-after : (request : Request) → Brings clients random twenties request
+      → Sound clients (record { time = t; slots = slotsAfter (planFor t slots random p request) })
+  unfolding slotsBy isGrant
+  sound-after request q = by (decisionOn plan) (granted-each request q)
+    where
+      plan : Plan
+      plan = planFor t slots random p request
+
+      by : (d : Decision) → (isGrant d ≡ true → AllSound clients (plan .granted)) → Sound clients (record { time = t; slots = slotsBy d plan })
+      by Grant f = record { size = granted-size request ∙ w .size; early = early; slots = f refl }
+      by (Refuse r) f = rw (denied-slots t slots random p request) (record { size = w .size; early = early; slots = w .slots })

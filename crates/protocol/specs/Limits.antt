@@ -1,0 +1,26 @@
+-- The sizes of what a call brings. No other file of specs/ names one of these numbers.
+use Prim.Native.Nat.{ℕ, _*_}
+use Rattle.token_store.specs.Layout.{handleSize}
+
+-- "query over 4,096", "body over 4,096"
+abbrev pub mostForm : ℕ
+mostForm = 4096
+
+-- "header over 512 bytes"
+abbrev pub mostHeader : ℕ
+mostHeader = 512
+
+-- "state over 200 bytes"
+abbrev pub mostState : ℕ
+mostState = 200
+
+-- "output below 1,024"
+abbrev pub leastOutput : ℕ
+leastOutput = 1024
+
+-- "random bytes not 20 (token: 40)": one handle, and two
+abbrev pub codeRandom : ℕ
+codeRandom = handleSize
+
+abbrev pub tokenRandom : ℕ
+tokenRandom = 2 * handleSize

@@ -1,2 +1,0 @@
--- Laws of the check's outcome.
-pub mod Checking
