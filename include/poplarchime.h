@@ -24,6 +24,9 @@
 #include <stddef.h>
 #include <stdint.h>
 
+/* The version of this interface and of the archive that goes with it. */
+#define POPLARCHIME_VERSION "0.1.0"
+
 #ifdef __cplusplus
 extern "C" {
 #endif

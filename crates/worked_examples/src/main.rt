@@ -12,9 +12,10 @@
 //   form NAME FORM                              what a form says of a name
 //   scope VALUE                                 what a scope value says, coded as in a form
 //   new                                         a token store with nothing in it
-//   authorize CLOCK DECISION FARM HEX QUERY     the endpoints, on that store and the registry of document 01's visit
+//   authorize CLOCK DECISION FARM HEX QUERY     the exports, on that store and the registry of document 01's visit
 //   token CLOCK HEX BODY HEADER
 //   check CLOCK TOKEN
+use authorization_server::CheckReply;
 use client_registry::layout;
 use encoding::Decoded;
 use form::Count;
@@ -22,13 +23,6 @@ use form::Outcome;
 use form::Place;
 use libc::STDIN_FILENO;
 use libc::STDOUT_FILENO;
-use protocol::CheckAnswer;
-use protocol::Decision;
-use protocol::Failure;
-use protocol::Input;
-use protocol::LiveToken;
-use protocol::PageCause;
-use protocol::Refusal;
 use protocol::limits;
 use scope::Scope;
 use scope::ScopeValue;
@@ -289,63 +283,13 @@ fn put_clients(registry: &mut [u8]) {
     );
 }
 
-// ---- the endpoints
+// ---- the exports, as a host calls them
 
-fn unfit_number(input: Input) -> u64 {
-    match input {
-        Input::Buffers => 1,
-        Input::Registry => 2,
-        Input::Store => 3,
-        Input::Clock => 4,
-    }
-}
-
-fn page_number(cause: PageCause) -> u64 {
-    match cause {
-        PageCause::Query => 5,
-        PageCause::Client => 6,
-        PageCause::RedirectUri => 7,
-    }
-}
-
-fn failure_status(failure: Failure) -> u64 {
-    match failure {
-        Failure::NoRoom => 503,
-        Failure::Clash => 500,
-    }
-}
-
-// The number of a refusal, 1 to 7, or its HTTP status. One that is sent to the redirect address has neither.
-fn refusal_number(refusal: Refusal) -> u64 {
-    match refusal {
-        Refusal::Unfit(input) => unfit_number(input),
-        Refusal::ErrorPage(cause) => page_number(cause),
-        Refusal::Redirect(_) => 0,
-        Refusal::Token(word) => error_words::status(word) as u64,
-        Refusal::Failed(failure) => failure_status(failure),
-    }
-}
-
-fn decision_number(decision: Decision, granted: u64) -> u64 {
-    match decision {
-        Decision::Grant => granted,
-        Decision::Refuse(refusal) => refusal_number(refusal),
-    }
-}
-
-// Writes what an endpoint answered.
-fn answered(number: u64, output: &[u8]) {
-    if number == 0 {
-        return found(output);
-    }
-    if number < 8 {
-        say_number(b"= refusal ", number);
-    } else {
-        say_number(b"= status ", number);
-        say(b" ");
-    }
-    say(output);
-    say(b"\n");
+// Writes a refusal's number, or a status, and what was written behind it.
+fn answered(label: &[u8], n: u32, output: &[u8]) {
+    say_number(label, n as u64);
+    say(b" ");
+    found(output);
 }
 
 fn authorize_with(
@@ -358,19 +302,17 @@ fn authorize_with(
     random: &[u8],
 ) {
     let mut output = [0u8; limits::LEAST_OUTPUT];
-    let farm = (farm % 4294967296) as u32;
-    let answer = authorization_endpoint::authorize(
+    let r = authorization_server::poplarchime_authorize(
         query,
         decision,
-        farm,
+        (farm % 4294967296) as u32,
         registry,
         store,
         clock,
         random,
         &mut output,
     );
-    let decided = answer.decision;
-    answered(decision_number(decided, 0), first(&output, answer.length));
+    answered(b"refusal ", r.refusal, first(&output, r.length));
 }
 
 fn authorize(clock: &[u8], registry: &[u8], store: &mut [u8]) {
@@ -399,12 +341,18 @@ fn token_with(
     random: &[u8],
 ) {
     let mut output = [0u8; limits::LEAST_OUTPUT];
-    let answer = token_endpoint::token(header, body, registry, store, clock, random, &mut output);
-    let decided = answer.decision;
-    answered(decision_number(decided, 200), first(&output, answer.length));
-    if answer.challenge {
-        found(b"challenge");
-    }
+    let r = authorization_server::poplarchime_token(
+        header,
+        body,
+        registry,
+        store,
+        clock,
+        random,
+        &mut output,
+    );
+    say_number(b"refusal ", r.refusal as u64);
+    say_number(b", challenge ", r.challenge as u64);
+    answered(b", status ", r.status, first(&output, r.length));
 }
 
 fn token(clock: &[u8], registry: &[u8], store: &mut [u8]) {
@@ -422,24 +370,18 @@ fn token(clock: &[u8], registry: &[u8], store: &mut [u8]) {
     );
 }
 
-fn live(token: LiveToken) {
-    say_number(b"= live: client ", token.client as u64);
-    say_number(b", farm ", token.farm as u64);
-    say_number(b", set ", token.scope as u64);
-    say_number(b", seconds left ", token.left);
+fn checked(r: CheckReply) {
+    say_number(b"refusal ", r.refusal as u64);
+    say_number(b", live ", r.live as u64);
+    say_number(b", client ", r.client as u64);
+    say_number(b", farm ", r.farm as u64);
+    say_number(b", set ", r.scope as u64);
+    say_number(b", seconds left ", r.secondsleft);
     say(b"\n");
 }
 
-fn checked(answer: CheckAnswer) {
-    match answer {
-        CheckAnswer::Refused(refusal) => answered(refusal_number(refusal), b""),
-        CheckAnswer::NotLive => found(b"not live"),
-        CheckAnswer::Live(token) => live(token),
-    }
-}
-
 fn check(clock: &[u8], registry: &[u8], store: &mut [u8]) {
-    checked(token_check::check(rest(clock), registry, store, number(clock)));
+    checked(authorization_server::poplarchime_check(rest(clock), registry, store, number(clock)));
 }
 
 // ---- the lines
