@@ -21,7 +21,7 @@ use Rattle.history.proofs.Invariant.{Invariant, invariant-fresh, invari
 use Rattle.history.proofs.Readings.{FitClients, clients-fit, Brings}
 use Rattle.history.proofs.OneRequest.{request-kept}
 use Rattle.history.proofs.SoundStores.{Sound, sound-back, sound-fresh, encode-fresh, sound-after}
-use Rattle.history.proofs.AnyCall.{isPast, TakenCall, unseen, seen, take, past-buffers, past-registry, past-clock, call-brings, leftBy, store-on, granted-on, fit-on}
+use Rattle.history.proofs.AnyCall.{isPast, TakenCall, unseen, seen, refused-unfit, take, past-buffers, past-registry, past-clock, call-brings, leftBy, store-on, granted-on, fit-on}
 
 pub never-tail : (xs ys : List (List ℕ)) → NeverTwice (xs ++ ys) → NeverTwice ys
 never-tail xs ys once h = omega (arith, once h, count-append (same h) xs ys)
@@ -83,7 +83,7 @@ module _ (registry : List ℕ) (bytes : Bytes registry) where
     kept-call = by (take registry b c)
       where
         by : TakenCall registry b c → KeptAfter
-        by (unseen n u s) = rw (u, s) v
+        by (unseen i n e) = rw (e, refused-unfit c i) v
         by (seen past e) =
             let q = brings c typed b past in
             rw (e, kept-read v, fit-on clients g c q)

@@ -3,7 +3,7 @@
 --
 -- In order: refusals 1 to 4; any call; what a call that is past them brings; a call that is served as the plan of its request.
 -- Assumes nothing.
-use mathlib.Core.Path.{_≡_, refl, sym, _∙_}
+use mathlib.Core.Path.{_≡_, refl, sym, ap, _∙_}
 use mathlib.Core.Bool.{Bool, true, false, cond, not, false≢true}
 use mathlib.Core.List.{List, [], _∷_}
 use Prim.Native.Nat.{ℕ, _≤_}
@@ -17,6 +17,7 @@ use Rattle.encoding.specs.declared.HandleText.{HandleText}
 use Rattle.client_registry.specs.Registry.{Client, fitRegistry, clientsOf}
 use Rattle.token_store.specs.Layout.{latestTime}
 use Rattle.token_store.specs.Store.{Store, isLive, encode, decode, callTime}
+use Rattle.token_store.specs.Fit.{fitStore}
 use Rattle.token_store.specs.declared.Slot.{Slot}
 use Rattle.token_store.specs.declared.Sought.the-variants.{Access}
 use Rattle.protocol.specs.declared.ErrorWord.{ErrorWord}
@@ -39,9 +40,11 @@ use Rattle.protocol.specs.Granting.{Plan, shownSlot, liveToken, refusedPlan, co
 use Rattle.protocol.specs.Outcomes.{unfitReasons, Handed, Endpoint, Outcome, admit, outcomeBy, outcome, unfitBuffers, serveAuthorization, authorizationEndpoint, serveToken, tokenEndpoint, serveCheck, checkEndpoint, clockAlone}
 use Rattle.history.specs.Calls.{Call, authorization, token, check, handedTo, WellTyped, Answer, authorizationAnswer, tokenAnswer, checkAnswer, answering, outcomeOf, isUnfitRefusal, isUnfitDecision, isUnfitCheck, isUnfit}
 use Rattle.history.specs.Contents.{firstTwenty, lastTwenty, asked, isGranted, twenties}
+use Rattle.history.specs.AnyStore.{unfitAnswer, unfitOutcome}
 use Rattle.octets.proofs.Booleans.{or-none}
 use Rattle.protocol.proofs.Reasons.{unrefused, decided}
 use Rattle.history.proofs.Readings.{FitClients, TwoHandles, second-last, Brings, authorization-brings, token-brings}
+use Rattle.history.proofs.OneRequest.{denied-slots}
 
 -- ---- calls over a store as a record, past refusals 1 to 4
 
@@ -73,48 +76,63 @@ unfitTo (check presented clock) = false
 abbrev pub isPast : List ℕ → List ℕ → Call → Bool
 isPast registry store c = isGrant (admit (unfitTo c) registry store (handedTo c .clock))
 
--- a call's outcome is a refusal with 1 to 4, which leaves the store's bytes, or past these that of a call which is served
-pub data Taken (past : Bool) (store : List ℕ) (done served : Outcome Answer) : Type 0 where
-  unseen : past ≡ false → isUnfit (done .answer) ≡ true → done .store ≡ store → Taken past store done served
-  seen : past ≡ true → done ≡ served → Taken past store done served
+-- a call's outcome is a refusal with 1 to 4, which changes no byte, or past these that of a call which is served
+pub data Taken (past : Bool) (refused : Input → Outcome Answer) (done served : Outcome Answer) : Type 0 where
+  unseen : (i : Input) → past ≡ false → done ≡ refused i → Taken past refused done served
+  seen : past ≡ true → done ≡ served → Taken past refused done served
 
 abbrev pub TakenCall : List ℕ → List ℕ → Call → Type 0
 TakenCall registry store c =
-    Taken (isPast registry store c) store (outcomeOf registry store c) (outcomeOn (clientsOf registry) (decode store) c)
+    Taken (isPast registry store c) (unfitOutcome store c) (outcomeOf registry store c) (outcomeOn (clientsOf registry) (decode store) c)
 
-module _ {past : Bool} {store : List ℕ} {done served : Outcome Answer} where
-  pub seen-past : Taken past store done served → isUnfit (done .answer) ≡ false → (past ≡ true) × (done ≡ served)
-  seen-past (unseen n u s) fit = absurd (false≢true (sym fit ∙ u))
-  seen-past (seen p e) fit = (p, e)
-
-  pub past-seen : Taken past store done served → past ≡ true → done ≡ served
-  past-seen (unseen n u s) p = absurd (false≢true (sym n ∙ p))
-  past-seen (seen p e) q = e
+pub refused-unfit : (c : Call) (i : Input) → isUnfit (unfitAnswer c i) ≡ true
+unfolding unfitAnswer isUnfit isUnfitDecision isUnfitCheck isUnfitRefusal
+refused-unfit (authorization query decision farm handed) i = refl
+refused-unfit (token header body handed) i = refl
+refused-unfit (check presented clock) i = refl
 
 module _ (registry store : List ℕ) where
   -- at any endpoint
   take-at : {A : Type 0} (tag : A → Answer) (endpoint : Endpoint A) (handed : Handed)
-      → ((i : Input) → isUnfit (tag (endpoint .refuse (Unfit i))) ≡ true)
-      → Taken (isGrant (admit (endpoint .unfit handed) registry store (handed .clock))) store
+      → Taken (isGrant (admit (endpoint .unfit handed) registry store (handed .clock)))
+      (λ i. record { answer = tag (endpoint .refuse (Unfit i)); output = handed .output; store = store })
       (answering tag (outcome endpoint registry store handed)) (answering tag (servedOn endpoint (clientsOf registry) (decode store) handed))
   unfolding outcome outcomeBy admit isGrant
-  take-at tag endpoint handed refuses =
+  take-at tag endpoint handed =
       decided P (unfitReasons (endpoint .unfit handed) registry store (handed .clock))
       (refused Buffers, (refused Registry, (refused StoreInput, (refused Clock, tt)))) (λ _. seen refl refl)
     where
       P : Decision → Type 0
       P d =
-          Taken (isGrant d) store (answering tag (outcomeBy endpoint registry store handed d))
+          Taken (isGrant d) (λ i. record { answer = tag (endpoint .refuse (Unfit i)); output = handed .output; store = store })
+          (answering tag (outcomeBy endpoint registry store handed d))
           (answering tag (servedOn endpoint (clientsOf registry) (decode store) handed))
 
       refused : (i : Input) → P (Refuse (Unfit i))
-      refused i = unseen refl (refuses i) refl
+      refused i = unseen i refl refl
 
   pub take : (c : Call) → TakenCall registry store c
-  unfolding handedTo unfitTo outcomeOf outcomeOn isUnfit isUnfitDecision isUnfitCheck isUnfitRefusal
-  take (authorization query decision farm handed) = take-at authorizationAnswer (authorizationEndpoint query decision farm) handed (λ i. refl)
-  take (token header body handed) = take-at tokenAnswer (tokenEndpoint header body) handed (λ i. refl)
-  take (check presented clock) = take-at checkAnswer (checkEndpoint presented) (clockAlone clock) (λ i. refl)
+  unfolding handedTo unfitTo unfitAnswer outcomeOf outcomeOn
+  take (authorization query decision farm handed) = take-at authorizationAnswer (authorizationEndpoint query decision farm) handed
+  take (token header body handed) = take-at tokenAnswer (tokenEndpoint header body) handed
+  take (check presented clock) = take-at checkAnswer (checkEndpoint presented) (clockAlone clock)
+
+  module _ (c : Call) where
+    pub seen-past : isUnfit (outcomeOf registry store c .answer) ≡ false
+        → (isPast registry store c ≡ true) × (outcomeOf registry store c ≡ outcomeOn (clientsOf registry) (decode store) c)
+    seen-past fit = by (take c)
+      where
+        by : TakenCall registry store c
+            → (isPast registry store c ≡ true) × (outcomeOf registry store c ≡ outcomeOn (clientsOf registry) (decode store) c)
+        by (unseen i n e) = absurd (false≢true (sym fit ∙ ap (λ (o : Outcome Answer). isUnfit (o .answer)) e ∙ refused-unfit c i))
+        by (seen p e) = (p, e)
+
+    pub past-seen : isPast registry store c ≡ true → outcomeOf registry store c ≡ outcomeOn (clientsOf registry) (decode store) c
+    past-seen past = by (take c)
+      where
+        by : TakenCall registry store c → outcomeOf registry store c ≡ outcomeOn (clientsOf registry) (decode store) c
+        by (unseen i n e) = absurd (false≢true (sym n ∙ past))
+        by (seen p e) = e
 
   -- ---- what a call that is past refusals 1 to 4 has
 
@@ -129,6 +147,10 @@ module _ (registry store : List ℕ) where
     pub past-registry : fitRegistry registry ≡ true
     unfolding admit
     past-registry = not-false (fitRegistry registry) (unrefused reasons past 1 (lit< tt))
+
+    pub past-store : fitStore (length (clientsOf registry)) store ≡ true
+    unfolding admit
+    past-store = not-false (fitStore (length (clientsOf registry)) store) (unrefused reasons past 2 (lit< tt))
 
     pub past-clock : handedTo c .clock ≤ latestTime
     unfolding admit
@@ -188,6 +210,14 @@ plan-fit clients twenties t slots random p (Code r) q = decided (λ d. isUnfitDe
 plan-fit clients twenties t slots random p (Exchange r) q = decided (λ d. isUnfitDecision d ≡ false) _ (refl, (refl, (refl, (refl, tt)))) (λ _. refl)
 plan-fit clients twenties t slots random p (Refresh r) q = decided (λ d. isUnfitDecision d ≡ false) _ (refl, (refl, (refl, (refl, tt)))) (λ _. refl)
 
+refused-keeps : (plan : Plan) → isGrant (decisionOn plan) ≡ false → slotsAfter plan ≡ plan .denied
+unfolding slotsBy isGrant
+refused-keeps plan = by (decisionOn plan)
+  where
+    by : (d : Decision) → isGrant d ≡ false → slotsBy d plan ≡ plan .denied
+    by Grant e = absurd (false≢true (sym e))
+    by (Refuse r) e = refl
+
 live-fit : (b : Bool) (l : LiveToken) → isUnfitCheck (cond b (Live l) NotLive) ≡ false
 unfolding isUnfitCheck
 live-fit true l = refl
@@ -212,6 +242,12 @@ module _ (clients : List Client) (g : Store) where
   granted-on (authorization query decision farm handed) = refl
   granted-on (token header body handed) = status-grant (decisionOn (planOn (token header body handed)))
   granted-on (check presented clock) = refl
+
+  -- one that is not granted leaves the slots
+  pub refused-left : (c : Call) → isGranted (outcomeOn clients g c .answer) ≡ false → leftBy c .slots ≡ g .slots
+  refused-left c e =
+      refused-keeps (planOn c) (sym (granted-on c) ∙ e)
+      ∙ denied-slots (callTime g (handedTo c .clock)) (g .slots) (handedTo c .random) (asked clients c .presented) (asked clients c .request)
 
   pub fit-on : (c : Call) → Brings (length clients) (handedTo c .random) (twenties c) (asked clients c .request)
       → isUnfit (outcomeOn clients g c .answer) ≡ false

@@ -18,7 +18,7 @@ use Rattle.protocol.specs.Outcomes.{unfitReasons, Outcome, admit}
 use Rattle.protocol.proofs.Reasons.{grant-every}
 use Rattle.history.specs.Calls.{Call, handedTo, AllWellTyped, Answer, outcomeOf, answerTo, storeAfterAll, Event, events}
 use Rattle.history.proofs.SoundStores.{Sound, sound-back, sound-fit}
-use Rattle.history.proofs.AnyCall.{outcomeOn, unfitTo, isPast, past-seen, take, leftBy, store-on}
+use Rattle.history.proofs.AnyCall.{outcomeOn, unfitTo, isPast, past-seen, leftBy, store-on}
 use Rattle.history.proofs.AllCalls.{sound-left}
 
 abbrev pub answerOn : List Client → Store → Call → Answer
@@ -48,7 +48,7 @@ module _ (registry : List ℕ) (bytes : Bytes registry) (fit : fitRegistry regis
   fitting-served : (g : Store) → Sound (length clients) g → (c : Call) → isFitting c ≡ true
       → outcomeOf registry (encode g) c ≡ outcomeOn clients g c
   fitting-served g w c e =
-      past-seen (take registry (encode g) c) (fitting-past g w c e) ∙ ap (λ (s : Store). outcomeOn clients s c) (sound-back g w)
+      past-seen registry (encode g) c (fitting-past g w c e) ∙ ap (λ (s : Store). outcomeOn clients s c) (sound-back g w)
 
   pub record Replayed (g : Store) (cs : List Call) : Type 0 where
     pub same-events : events registry (encode g) cs ≡ eventsOn clients g cs

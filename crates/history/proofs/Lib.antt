@@ -1,4 +1,4 @@
--- Demand 3, proved: the theorem is `demand3` in Theorem.
+-- Demand 3, proved: the theorem is `demand3` in Theorem. Demand 1, proved: the theorem is `demand1` in AnyStore.
 --
 -- Read Theorem first, then down: AllCalls (every list of calls), AnyCall (one call on bytes), OneRequest (one request on slots),
 -- Invariant (the idea, over the slots of HeldIssues). Readings and SoundStores: what is read fits a slot, so that the store stays fit.
@@ -11,7 +11,9 @@ pub mod SoundStores
 pub mod AnyCall
 pub mod AllCalls
 pub mod Theorem
+pub mod AnyStore
 pub mod Meaning
 pub mod CallsOnRecords
 pub mod Examples
 pub mod Visit
+pub mod AnyStoreExamples

@@ -12,7 +12,7 @@ use native.Mathlib.Omega.{arith}
 use lib.Dec.{ltb, lit<, lit≤}
 use lib.ListN.{length, take, drop, getD, replicate, length-drop, length-replicate}
 use lib.Seq.{drop-at, drop-drop, length-take-le}
-use Rattle.octets.specs.Lists.{part}
+use Rattle.octets.specs.Lists.{part, Bytes}
 use Rattle.octets.specs.BigEndian.{bigEndianBytes}
 use Rattle.octets.proofs.BigEndian.{length-be-bytes}
 use Rattle.octets.proofs.Booleans.{and-left}
@@ -24,10 +24,10 @@ use Rattle.token_store.specs.Fit.{fitSlot, fitStore}
 use Rattle.token_store.specs.declared.Slot.{Slot}
 use Rattle.token_store.specs.declared.Sought.{Sought}
 use Rattle.token_store.specs.declared.Sought.the-variants.{Code as soughtCode, Refresh as soughtRefresh}
-use Rattle.octets.proofs.Searches.{each-every, replaceFirst-each}
+use Rattle.octets.proofs.Searches.{every-each, each-every, replaceFirst-each}
 use Rattle.token_store.proofs.Slots.{free-fits}
-use Rattle.token_store.proofs.Codec.{encode-decode, decode-encode, decode-fresh}
-use Rattle.token_store.proofs.Fits.{fit-used, used-fit, fit-free, fit-encode}
+use Rattle.token_store.proofs.Codec.{length-slots, slots-fit, encode-decode, decode-encode, decode-fresh}
+use Rattle.token_store.proofs.Fits.{fit-used, used-fit, fit-free, fit-size, fit-time, fit-slots, fit-encode}
 use Rattle.protocol.specs.declared.Decision.{Decision}
 use Rattle.protocol.specs.declared.Decision.the-variants.{Grant, Refuse}
 use Rattle.protocol.specs.declared.CodeRequest.{CodeRequest}
@@ -91,6 +91,17 @@ module _ {clients : ℕ} (g : Store) (w : Sound clients g) where
       fit-encode clients g (w .size) (w .early) (λ k. w .slots k .fits)
       (each-every (fitSlot clients) freeSlot (g .slots) (λ k. w .slots k .fit))
 
+-- a fit store of bytes is read as a sound one
+pub fit-sound : (clients : ℕ) (b : List ℕ) → Bytes b → fitStore clients b ≡ true → Sound clients (decode b)
+fit-sound clients b bytes fit = record {
+  size = length-slots b;
+  early = fit-time clients b fit;
+  slots = λ k. record {
+    fits = slots-fit b (fit-size clients b fit) bytes k;
+    fit = every-each (fitSlot clients) freeSlot (decode b .slots) (fit-free clients) (fit-slots clients b fit) k;
+  };
+}
+
 pub slots-same : (g h : Store) → g .slots ≡ h .slots → (i : ℕ) → part (encode g) (slotStart i) slotSize ≡ part (encode h) (slotStart i) slotSize
 unfolding encode
 slots-same g h e i = behind g ∙ ap (λ (l : List Slot). part (concat (map encodeSlot l)) (i * slotSize) slotSize) e ∙ sym (behind h)
@@ -117,8 +128,11 @@ sound-fresh clients = record {
   slots = λ k. each-replicate (SoundSlot clients) freeSlot slotCount k (sound-free clients);
 }
 
+pub zero-bytes : (n : ℕ) → Bytes (replicate n 0)
+zero-bytes n k = each-replicate (λ (b : ℕ). b < 256) 0 n k (lit< tt)
+
 encode-zeros : (n : ℕ) → n ≡ storeSize → encode (decode (replicate n 0)) ≡ replicate n 0
-encode-zeros n e = encode-decode (replicate n 0) (length-replicate n 0 ∙ e) (λ k. each-replicate (λ (b : ℕ). b < 256) 0 n k (lit< tt))
+encode-zeros n e = encode-decode (replicate n 0) (length-replicate n 0 ∙ e) (zero-bytes n)
 
 pub encode-fresh : replicate storeSize 0 ≡ encode fresh
 encode-fresh = sym (encode-zeros storeSize refl) ∙ ap encode decode-fresh

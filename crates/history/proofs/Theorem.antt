@@ -29,30 +29,22 @@ use Rattle.protocol.specs.declared.Reading.{Reading}
 use Rattle.protocol.specs.declared.CheckAnswer.the-variants.{Live}
 use Rattle.protocol.specs.Answers.{isGrant}
 use Rattle.protocol.specs.Token.{tokenReply, refreshMember}
-use Rattle.protocol.specs.Granting.{Plan, firstHandle, secondHandle, exchangePlan, refreshPlan, planFor, planOf, decisionOn, slotsBy, slotsAfter, checkSlots}
+use Rattle.protocol.specs.Granting.{Plan, firstHandle, secondHandle, exchangePlan, refreshPlan, planFor, planOf, decisionOn, checkSlots}
 use Rattle.protocol.specs.Outcomes.{Handed, Outcome, replyText, serveToken, serveCheck}
 use Rattle.history.specs.Calls.{Call, token, check, handedTo, AllWellTyped, Answer, checkAnswer, isUnfit}
 use Rattle.history.specs.Contents.{code, access, refresh, Issue, isA, isLiveAt, isOf, firstTwenty, lastTwenty, askedOr, originOf, asked, isGranted, twenties, NeverTwice}
 use Rattle.history.specs.Claim.{mayExchange, mayRefresh, mayPass, isLiveAnswer, store, contained, standing, timeAt, next, Judged, Asks, Demand3}
 use Rattle.history.proofs.Invariant.{Invariant, invariant-later, origin}
 use Rattle.history.proofs.Readings.{AskedSet, TwoHandles, second-last, Brings, token-brings}
-use Rattle.history.proofs.OneRequest.{exchange-has, refresh-has, denied-slots, given-asked, exchange-answer, refresh-answer, check-passes, check-names}
+use Rattle.history.proofs.OneRequest.{exchange-has, refresh-has, given-asked, exchange-answer, refresh-answer, check-passes, check-names}
 use Rattle.history.proofs.SoundStores.{slots-same}
-use Rattle.history.proofs.AnyCall.{outcomeOn, unfitTo, isPast, TakenCall, unseen, seen, seen-past, take, past-buffers, two-handles, leftBy, store-on, granted-on}
+use Rattle.history.proofs.AnyCall.{outcomeOn, unfitTo, isPast, TakenCall, unseen, seen, seen-past, take, past-buffers, two-handles, leftBy, store-on, granted-on, refused-left}
 use Rattle.history.proofs.AllCalls.{storeWith, Kept, kept-read, kept-all, never-tail}
 
 pub is-grant : (d : Decision) → isGrant d ≡ true → d ≡ Grant
 unfolding isGrant
 is-grant Grant e = refl
 is-grant (Refuse r) e = absurd (false≢true e)
-
-refused-keeps : (plan : Plan) → isGrant (decisionOn plan) ≡ false → slotsAfter plan ≡ plan .denied
-unfolding slotsBy isGrant
-refused-keeps plan = by (decisionOn plan)
-  where
-    by : (d : Decision) → isGrant d ≡ false → slotsBy d plan ≡ plan .denied
-    by Grant e = absurd (false≢true (sym e))
-    by (Refuse r) e = refl
 
 module _ (registry : List ℕ) (bytes : Bytes registry) (cs : List Call) (typed : AllWellTyped cs) where
   kept : Kept (length (clientsOf registry)) (store registry cs) (contained registry cs)
@@ -73,7 +65,7 @@ module _ (registry : List ℕ) (bytes : Bytes registry) (cs : List Call) (typed 
 
   served : (c : Call) → isUnfit (next registry cs c .answer) ≡ false
       → (isPast registry (store registry cs) c ≡ true) × (next registry cs c ≡ outcomeOn (clientsOf registry) (left) c)
-  served c judged = let p = seen-past (take registry (store registry cs) c) judged in (p .0, on-record c (p .1))
+  served c judged = let p = seen-past registry (store registry cs) c judged in (p .0, on-record c (p .1))
 
   invariant-at : (clock : ℕ) → NeverTwice (contained registry cs .randoms)
       → Invariant (timeAt registry cs clock) slots (standing registry cs) (contained registry cs .randoms)
@@ -187,18 +179,13 @@ module _ (registry : List ℕ) (bytes : Bytes registry) (cs : List Call) (typed 
       → (i : ℕ) → part (next registry cs c .store) (slotStart i) slotSize ≡ part (store registry cs) (slotStart i) slotSize
   refused-slots c none i = by (take registry (store registry cs) c)
     where
-      keeps : isGranted (outcomeOn (clientsOf registry) left c .answer) ≡ false → leftBy (clientsOf registry) left c .slots ≡ slots
-      keeps e =
-          refused-keeps _ (sym (granted-on (clientsOf registry) left c) ∙ e)
-          ∙ denied-slots _ slots (handedTo c .random) _ (asked (clientsOf registry) c .request)
-
       by : TakenCall registry (store registry cs) c
           → part (next registry cs c .store) (slotStart i) slotSize ≡ part (store registry cs) (slotStart i) slotSize
-      by (unseen n u s) = ap (λ (l : List ℕ). part l (slotStart i) slotSize) s
+      by (unseen j n e) = ap (λ (o : Outcome Answer). part (o .store) (slotStart i) slotSize) e
       by (seen past e) =
           let o = on-record c e in
           rw (o, store-on (clientsOf registry) left c, kept .bytes)
-          (slots-same (leftBy (clientsOf registry) left c) left (keeps (rw o at none)) i)
+          (slots-same (leftBy (clientsOf registry) left c) left (refused-left (clientsOf registry) left c (rw o at none)) i)
 
 -- For every registry of bytes, fit or not, and every list of calls whose farm numbers have 32 bits. That no twenty random bytes
 -- come twice is asked where a call is judged (`Judged`); what a refused try leaves needs no such premise.

@@ -24,6 +24,7 @@ use Rattle.protocol.specs.declared.ErrorWord.the-variants.{InvalidGrant}
 use Rattle.protocol.specs.declared.Refusal.the-variants.{Token}
 use Rattle.protocol.specs.declared.Decision.{Decision}
 use Rattle.protocol.specs.declared.Decision.the-variants.{Grant, Refuse}
+use Rattle.protocol.specs.declared.Request.the-variants.{Exchange}
 use Rattle.protocol.specs.Token.{readToken}
 use Rattle.protocol.proofs.Starred.{countUp}
 use Rattle.history.specs.Calls.{Call, handedTo, AllWellTyped, outcomeOf, answerTo, storeAfterAll, Event, events, freshStore, isUnfitRefusal, isUnfitDecision, isUnfit}
@@ -38,7 +39,7 @@ use Rattle.history.proofs.Examples.{handedAt, authorizeAt, header, body
 
 -- ---- the sample registry
 
-sample-fit : fitRegistry sampleRegistry ≡ true
+pub sample-fit : fitRegistry sampleRegistry ≡ true
 unfolding fitRegistry distinct soundRecords recordsBehind recordSize soundRecord soundConfidential soundPublic soundCommon soundField soundSecret soundRedirect soundId soundText every same sampleRegistry sampleClients samplePublic sampleConfidential registryOf recordOf
 sample-fit = refl
 
@@ -50,7 +51,7 @@ all-bytes : every (λ b. ltb b 256) sampleRegistry ≡ true
 unfolding every sampleRegistry sampleClients samplePublic sampleConfidential registryOf recordOf
 all-bytes = refl
 
-sample-bytes : Bytes sampleRegistry
+pub sample-bytes : Bytes sampleRegistry
 sample-bytes k = ltb-true (getD sampleRegistry k 0) 256 (every-each (λ b. ltb b 256) 0 sampleRegistry refl all-bytes k)
 
 -- ---- what the server answers
@@ -84,7 +85,7 @@ exchange-past : (clock : ℕ) → ltb latestTime clock ≡ false → isFitting (
 unfolding isFitting unfitTo handedTo exchangeAt tokenAt handedAt countUp
 exchange-past clock e = rw e
 
-visit-typed : AllWellTyped visit
+pub visit-typed : AllWellTyped visit
 unfolding AllWellTyped visit authorizeAt
 visit-typed = (lit< tt, tt)
 
@@ -131,14 +132,17 @@ distinct-never (x ∷ xs) e h = by (same h x) refl (distinct-never xs (and-right
         omega (arith, ap (λ (y : List ℕ). count (same y) xs) (same-eq h x q))
     by false q r = omega arith
 
-visit-contents : withEvents (clientsOf sampleRegistry) nothingYet (events sampleRegistry freshStore visit) ≡ containedIn visit
+pub visit-contents : withEvents (clientsOf sampleRegistry) nothingYet (events sampleRegistry freshStore visit) ≡ containedIn visit
 unfolding containedIn
 visit-contents =
     ap (λ (es : List Event). withEvents (clientsOf sampleRegistry) nothingYet es) (events-are visit visit-typed visit-past)
     ∙ ap (λ (clients : List Client). withEvents clients nothingYet (eventsOn sampleClients fresh visit)) sample-clients
 
+pub sample-read : readToken (clientsOf sampleRegistry) header body ≡ record { request = Exchange asksTokens; presented = presented }
+sample-read = ap (λ (clients : List Client). readToken clients header body) sample-clients ∙ computed .read
+
 module _ (clock : ℕ) (d : Decision) (word : wordAfter visit (exchangeAt clock) ≡ d) (fit : isUnfitDecision d ≡ false) where
-  judged : Judged sampleRegistry visit (exchangeAt clock)
+  pub judged : Judged sampleRegistry visit (exchangeAt clock)
   unfolding wordAfter wordIn exchangeAt tokenAt handedAt outcomeOf isUnfit twenties
   judged = (ap isUnfitDecision word ∙ fit, rw visit-contents (distinct-never _ (computed .randoms)))
 
@@ -147,7 +151,7 @@ module _ (clock : ℕ) (d : Decision) (word : wordAfter visit (exchangeAt clock)
   unfolding exchangeAt tokenAt handedAt
   by-demand3 =
       demand3 sampleRegistry sample-bytes visit visit-typed .exchanges header body (handedAt clock 40 0x20) presented asksTokens
-      (record { judged = judged; reads = ap (λ (clients : List Client). readToken clients header body) sample-clients ∙ computed .read })
+      (record { judged = judged; reads = sample-read })
       ∙ ap (λ (c : Contents). mayExchange (max clock (c .highest)) (c .standing) presented asksTokens) (visit-contents ∙ computed .visit-contains)
 
 pub yields-1599 : isGranted (answerTo sampleRegistry (storeAfterAll sampleRegistry freshStore visit) (exchangeAt 1599)) ≡ true

@@ -1,4 +1,4 @@
--- The sizes of what a call brings. No other file of specs/ names one of these numbers.
+-- The sizes of what a call brings and of what is written. No other file of specs/ names one of these numbers.
 use Prim.Native.Nat.{ℕ, _*_}
 use Rattle.token_store.specs.Layout.{handleSize}
 
@@ -24,3 +24,12 @@ codeRandom = handleSize
 
 abbrev pub tokenRandom : ℕ
 tokenRandom = 2 * handleSize
+
+-- the longest location: a redirect address of 200 bytes, `?` or `&`, `code=` with a handle in hex (45), `&state=` with a
+-- state of which each byte takes three (607)
+abbrev pub longestLocation : ℕ
+longestLocation = 853
+
+-- the longest reply: one with both tokens (40 bytes of hex each) and all eight scope names (48 bytes)
+abbrev pub longestReply : ℕ
+longestReply = 217

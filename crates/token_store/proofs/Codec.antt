@@ -12,7 +12,7 @@ use mathlib.Core.List.{List, _++_, map}
 use Prim.Native.Nat.{ℕ, _+_, _*_, _^_, _<_}
 use native.Mathlib.Decide.{decLt}
 use native.Mathlib.Omega.{arith}
-use lib.ListN.{length, take, drop, getD, replicate, length-append, length-drop, length-map, length-replicate, getD-replicate, take-append-drop, List·getD-map}
+use lib.ListN.{length, take, drop, getD, replicate, length-append, length-drop, length-map, length-replicate, getD-replicate, take-append-drop, List·getD-map, List·getD-eq-default}
 use lib.Seq.{take-all, take-at, drop-append-add, length-take-le, sets}
 use Rattle.octets.specs.Lists.{part, Bytes}
 use Rattle.octets.specs.BigEndian.{bigEndian, bigEndianFrom, bigEndianBytes}
@@ -20,9 +20,9 @@ use Rattle.octets.proofs.Lists.{take-bytes, drop-bytes, length-part}
 use Rattle.octets.proofs.Stores.{part-sets-after, part-sets-before, part-sets-same}
 use Rattle.octets.proofs.BigEndian.{be-bytes, bytes-be, length-be-bytes}
 use Rattle.token_store.specs.Layout.{timeSize, slotCount, slotSize, storeSize, slotStart}
-use Rattle.token_store.specs.Store.{Store, SlotsFit, concat, encodeSlot, decodeSlot, slotBytes, decode, encode, freeSlot, fresh, slotOf, withSlot, withTime}
+use Rattle.token_store.specs.Store.{Store, SlotFits, SlotsFit, concat, encodeSlot, decodeSlot, slotBytes, decode, encode, freeSlot, fresh, slotOf, withSlot, withTime}
 use Rattle.token_store.proofs.Tables.{length-tabulate, getD-tabulate, tabulate-cong, tabulate-list, tabulate-set, map-tabulate, concat-parts, part-concat, length-concat, part-replicate}
-use Rattle.token_store.proofs.Slots.{slot-back, slot-forth, length-slot, slotIn, slot-in, free-read}
+use Rattle.token_store.proofs.Slots.{slot-back, slot-forth, read-fits, length-slot, slotIn, slot-in, free-read, free-fits}
 
 -- ---- what is read
 
@@ -112,6 +112,18 @@ module _ (b : List ℕ) (size : length b ≡ storeSize) (bytes : Bytes b) where
       bytes-be timeSize (take timeSize b) (length-take-le timeSize b (omega arith)) (take-bytes timeSize b bytes)
       in
       rw (t, encode-slots) (take-append-drop timeSize b)
+
+  -- and with another time they change in the first eight alone
+  pub encode-later : (t : ℕ) → encode (withTime (decode b) t) ≡ bigEndianBytes timeSize t ++ drop timeSize b
+  unfolding encode
+  encode-later t = rw encode-slots
+
+  pub slots-fit : SlotsFit (decode b .slots)
+  slots-fit i = by (decLt i slotCount)
+    where
+      by : Dec (i < slotCount) → SlotFits (slotOf (decode b) i)
+      by (yes l) = rw (slot-at b i l) (read-fits (slotBytes b i) (length-slot-bytes b i size l) (slot-bytes i))
+      by (no n) = rw (List·getD-eq-default (decode b .slots) freeSlot {n = i} (omega (arith, length-slots b))) free-fits
 
 -- ---- reading what was written
 

@@ -95,6 +95,9 @@ module _ (clients : ℕ) (b : List ℕ) where
     pub fit-time : decode b .time ≤ latestTime
     fit-time = leb-true (decode b .time) latestTime (parts .1)
 
+    pub fit-slots : every (fitSlot clients) (decode b .slots) ≡ true
+    fit-slots = parts .2
+
 -- ---- what was written
 
 pub fit-encode : (clients : ℕ) (g : Store) → length (g .slots) ≡ slotCount → g .time ≤ latestTime → SlotsFit (g .slots)

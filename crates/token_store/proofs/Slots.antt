@@ -1,14 +1,14 @@
 -- Laws of one slot (specs/Store.antt): its bytes, its fields and its tests.
 --
--- In order: reading what was written; where each field lies in a slot's bytes; writing what was read; the stores that
--- write a slot; the free slot; a slot that is sought is in use; lifetimes.
+-- In order: reading what was written; where each field lies in a slot's bytes; writing what was read,
+-- which fits; the stores that write a slot; the free slot; a slot that is sought is in use; lifetimes.
 --
 -- Not here: the slots of a store (`Codec`), fitness (`Fits`).
 -- Assumes nothing.
 use mathlib.Core.Path.{_≡_, refl, sym, ap, _∙_, subst}
 use mathlib.Core.Bool.{Bool, true, false, not, _||_}
 use mathlib.Core.List.{List, [], _∷_, _++_, map, append-assoc, append-nil}
-use Prim.Native.Nat.{ℕ, suc, _+_, _≤_, _<_}
+use Prim.Native.Nat.{ℕ, suc, _+_, _^_, _≤_, _<_}
 use native.Mathlib.Nat.{add-zero}
 use native.Mathlib.Omega.{arith}
 use lib.Dec.{lit<, eqb, leb}
@@ -21,7 +21,7 @@ use Rattle.octets.proofs.Booleans.{and-left, and-right}
 use Rattle.octets.proofs.Lists.{take-bytes, drop-bytes, length-part, part-part}
 use Rattle.octets.proofs.Searches.{every-each}
 use Rattle.octets.proofs.Stores.{sets-append}
-use Rattle.octets.proofs.BigEndian.{be-one, be-bytes, bytes-be, be-bytes-one, length-be-bytes}
+use Rattle.octets.proofs.BigEndian.{be-one, be-bytes, bytes-be, be-bound, be-bytes-one, length-be-bytes}
 use Rattle.encoding.specs.declared.HandleText.{HandleText}
 use Rattle.token_store.specs.Layout.{latestTime, handleSize, farmSize, expirySize, fieldSizes, slotSize, atHandle, atClient, atFarm, atScope, atExpiry}
 use Rattle.token_store.specs.Store.{SlotFits, cut, concat, fieldsOf, ofFields, encodeSlot, decodeSlot, freeSlot, kindCode, kindBoundCode, isUsed, lifetimes, lifetimeOf, isLive, isVacant, holds, isSought, soughtKey, shows}
@@ -135,6 +135,22 @@ module _ (l : List ℕ) (size : length l ≡ slotSize) (bytes : Bytes l) where
       in
       ap (λ (s : Slot). concat (fieldsOf s)) (slot-fields l) ∙ ap concat (e ∙ sym (cut-fields l))
       ∙ concat-cut fieldSizes l (drop-of-length-le l {i = slotSize} (omega arith))
+
+  field-bound : (k n : ℕ) → k + n ≤ slotSize → bigEndian (part l k n) < 256 ^ n
+  field-bound k n h = subst (λ (w : ℕ). bigEndian (part l k n) < 256 ^ w) (field-length k n h) (be-bound (part l k n) (field-bytes k n))
+
+  -- what was read fits
+  pub read-fits : SlotFits (decodeSlot l)
+  read-fits =
+      subst SlotFits (sym (slot-fields l))
+      (record {
+        kind = field-bound 0 1 (omega arith);
+        handle = field-length atHandle handleSize (omega arith);
+        client = field-bound atClient 1 (omega arith);
+        farm = field-bound atFarm farmSize (omega arith);
+        scope = field-bound atScope 1 (omega arith);
+        expiry = field-bound atExpiry expirySize (omega arith);
+      })
 
 -- ---- the stores that write a slot are one store of the whole slot
 
