@@ -2,22 +2,19 @@
 --
 -- In order: the separator; the room of the redirect address and of a parameter; the state, as the code tests it.
 --
--- Not here: texts written one behind the other (`octets`, `Writing`); the error words (`error_words`, `Words`).
+-- Not here: texts written one behind the other (`octets`, `Writing`); how long an error word is (`protocol`, `Lengths`).
 -- Assumes nothing.
 use Prim.Native.Nat.{ℕ, _+_, _≤_, _<_}
 use mathlib.Core.Path.{_≡_, refl}
-use mathlib.Core.Bool.{Bool, true, false, cond, not, _||_, true≢false}
+use mathlib.Core.Bool.{Bool, true, false, not, _||_, true≢false}
 use mathlib.Core.List.{List, [], _++_}
 use native.Mathlib.Omega.{arith}
-use borrow.Author.Tests.{leb-true, lt-ltb, le-ltb, not-true, not-false}
-use lib.Dec.{leb, eqb}
+use borrow.Author.Tests.{lt-ltb, le-ltb, not-true, not-false}
 use lib.ListN.{length, length-append}
 use Rattle.octets.specs.Text.{bytes}
-use Rattle.octets.specs.Lists.{every, inClass, indexOf}
-use Rattle.octets.specs.Search.{any}
+use Rattle.octets.specs.Lists.{indexOf}
 use Rattle.octets.specs.Writing.{Appended}
 use Rattle.octets.proofs.Writing.{append-length}
-use Rattle.octets.proofs.Booleans.{and-left}
 use Rattle.octets.proofs.Pieces.{any-index}
 use Rattle.encoding.specs.Hex.{hexText}
 use Rattle.encoding.proofs.Hex.{hex-length}
@@ -29,7 +26,7 @@ use Rattle.protocol.specs.declared.ErrorWord.{ErrorWord}
 use Rattle.protocol.specs.Limits.{mostState}
 use Rattle.protocol.specs.Answers.{wordText}
 use Rattle.protocol.specs.Authorization.{isSoundState, separator, stateText, codeParameter, errorParameter}
-use Rattle.error_words.proofs.Words.{word-length}
+use Rattle.protocol.proofs.Lengths.{word-length, sound-length, separator-length}
 use Rattle.authorization_location.specs.Rooms.{parameterRoom, stateRoom, Writable}
 
 -- ---- the separator: `&` where the address holds a `?`, whose first stands before the end
@@ -46,12 +43,7 @@ module _ (redirect : List ℕ) where
   -- ---- room
 
   pub redirect-length : length (redirect ++ separator redirect) ≡ length redirect + 1
-  unfolding separator
-  redirect-length = omega (arith, length-append redirect (separator redirect), one (any (λ b. eqb b 63) redirect))
-    where
-      one : (q : Bool) → length (cond q (bytes "&") (bytes "?")) ≡ 1
-      one true = refl
-      one false = refl
+  redirect-length = omega (arith, length-append redirect (separator redirect), separator-length redirect)
 
 pub code-length : (handle : List ℕ) → length handle ≡ handleSize → length (codeParameter handle) ≤ parameterRoom
 unfolding codeParameter
@@ -93,9 +85,7 @@ state-some repeated e = absurd (true≢false e)
 
 -- a state that is sent back is short
 pub sent-length : (v : Value) → isHeldBack v ≡ false → length (onlyValue v) ≤ mostState
-unfolding isMissing isRepeated onlyValue isSoundState
+unfolding isMissing isRepeated onlyValue
 sent-length missing e = absurd (true≢false e)
-sent-length (once x) e =
-    let sound = not-false (isSoundState x) e in
-    leb-true (length x) mostState (and-left (leb (length x) mostState) (every (inClass 32 126 0) x) sound)
+sent-length (once x) e = sound-length x (not-false (isSoundState x) e)
 sent-length repeated e = absurd (true≢false e)

@@ -1,11 +1,14 @@
 // authorization_server: the three endpoints as a C host calls them. Numbers and byte slices in, numbers and bytes out.
 //
-// No function here asks anything of its caller: unfit buffers, registry, store and clock get refusals 1 to 4.
+// No function here asks anything of its caller: unfit buffers, registry, store and clock get refusals 1 to 4. No length that is
+// answered is more than the output's.
 // include/poplarchime.h declares what is exported.
 mod numbers;
 
 ghost use mathlib.Core.Path.{_≡_};
 ghost use mathlib.Core.List.{[]};
+ghost use Prim.Native.Nat.{_≤_};
+ghost use lib.ListN.{length};
 ghost use Rattle.protocol.specs.Outcomes.{authorizationOutcome, tokenOutcome, checkOutcome};
 ghost use Rattle.authorization_server.specs.Numbers.{authorizationReply, tokenReply, checkReply, inNumbers};
 
@@ -56,6 +59,7 @@ pub extern "C" fn poplarchime_authorize(
         ≡ inNumbers authorizationReply
         (authorizationOutcome (now (query .entry)) decision farm (now (registry .entry)) (now (store .entry))
         (record { clock = clock; random = now (random .entry); output = now (output .entry) })) ⌝ }
+    ensures { λ r. ⌜ r .length ≤ length (now (output .entry)) ⌝ }
 {
     numbers::authorization_reply(authorization_endpoint::authorize(
         query,
@@ -84,6 +88,7 @@ pub extern "C" fn poplarchime_token(
         ≡ inNumbers tokenReply
         (tokenOutcome (now (header .entry)) (now (body .entry)) (now (registry .entry)) (now (store .entry))
         (record { clock = clock; random = now (random .entry); output = now (output .entry) })) ⌝ }
+    ensures { λ r. ⌜ r .length ≤ length (now (output .entry)) ⌝ }
 {
     numbers::token_reply(token_endpoint::token(
         header,

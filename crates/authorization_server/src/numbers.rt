@@ -108,7 +108,7 @@ fn status_of(d: Decision) -> u32
     }
 }
 
-pub fn authorization_reply(a: AuthorizationAnswer) -> AuthorizationReply
+pub(crate) fn authorization_reply(a: AuthorizationAnswer) -> AuthorizationReply
     ensures { λ r. ⌜ r ≡ authorizationReply a ⌝ }
 {
     let decision = a.decision;
@@ -119,7 +119,7 @@ pub fn authorization_reply(a: AuthorizationAnswer) -> AuthorizationReply
     }
 }
 
-pub fn token_reply(a: TokenAnswer) -> TokenReply
+pub(crate) fn token_reply(a: TokenAnswer) -> TokenReply
     ensures { λ r. ⌜ r ≡ tokenReply a ⌝ }
 {
     let decision = a.decision;
@@ -145,7 +145,7 @@ fn live_reply(l: LiveToken) -> CheckReply
     }
 }
 
-pub fn check_reply(a: CheckAnswer) -> CheckReply
+pub(crate) fn check_reply(a: CheckAnswer) -> CheckReply
     ensures { λ r. ⌜ r ≡ checkReply a ⌝ }
 {
     match a {

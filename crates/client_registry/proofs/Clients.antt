@@ -9,15 +9,17 @@ use mathlib.Core.Bool.{true, false}
 use mathlib.Core.List.{List, []}
 use mathlib.Core.Logic.{⊎-elim}
 use Prim.Native.Nat.{ℕ, _≤_, _<_}
+use native.Mathlib.Decide.{decLt}
 use native.Mathlib.Omega.{arith}
 use borrow.Author.Tests.{eqb-true, eqb-false}
 use lib.Dec.{eqb}
 use lib.ListN.{length, getD, length-map, List·getD-map, List·getD-eq-default}
 use Rattle.octets.specs.Lists.{Bytes}
 use Rattle.octets.proofs.Lists.{every-at}
-use Rattle.client_registry.specs.Layout.{maxClients, confidentialKind, atScope, atSecret}
+use Rattle.client_registry.specs.Layout.{maxClients, redirectRoom, confidentialKind, atScope, atSecret}
 use Rattle.client_registry.specs.Registry.{Client, soundId, soundRedirect, soundSecret, soundRecord, fieldText, records, clientOf, clientsOf, fitRegistry}
-use Rattle.client_registry.specs.Lookup.{clientAt}
+use Rattle.client_registry.specs.Lookup.{noClient, clientAt}
+use Rattle.client_registry.proofs.Fields.{redirect-text}
 use Rattle.client_registry.proofs.Fit.{fit-records}
 use Rattle.client_registry.proofs.Records.{Public, Confidential, sound-kinds, sound-parts, records-bytes}
 
@@ -78,6 +80,14 @@ module _ (b : List ℕ) where
       let k : n < length (records b) = omega (arith, length-map (records b) clientOf) in
       subst SoundClient (sym (client-record n))
       (record-client (getD (records b) n []) (every-at soundRecord (records b) [] (fit-records b fit .each) n k))
+
+  -- no address is longer than its field, and where there is no client there is none
+  pub redirect-most : fitRegistry b ≡ true → (n : ℕ) → length (clientAt (clientsOf b) n .redirect) ≤ redirectRoom
+  redirect-most fit n = by (decLt n (length (clientsOf b)))
+    where
+      by : Dec (n < length (clientsOf b)) → length (clientAt (clientsOf b) n .redirect) ≤ redirectRoom
+      by (yes h) = redirect-text (clientAt (clientsOf b) n .redirect) (fit-client fit n h .redirect-sound) .most
+      by (no h) = rw (List·getD-eq-default (clientsOf b) noClient {n = n} (omega arith)) (omega arith)
 
   -- a scope set is a byte
   pub scope-byte : Bytes b → (n : ℕ) → clientAt (clientsOf b) n .scope < 256

@@ -1,4 +1,6 @@
--- The error words as texts: none is longer than the table's rows, and a row begins with its word.
+-- The error words as texts: each has its row in the table, which begins with the word.
+--
+-- Not here: how long a word is (`protocol`, `Lengths`).
 -- Assumes nothing.
 use Prim.Native.Nat.{_-_, _≤_}
 use mathlib.Core.Path.{_≡_, refl}
@@ -11,18 +13,6 @@ use Rattle.protocol.specs.declared.ErrorWord.the-variants.{InvalidRequest, Inva
 use Rattle.protocol.specs.Answers.{wordText, wordNumber}
 use Rattle.error_words.specs.declared.Row.{Row}
 use Rattle.error_words.specs.Table.{rowOf}
-
-pub word-length : (w : ErrorWord) → length (wordText w) ≤ 25
-unfolding wordText
-word-length InvalidRequest = lit≤ tt
-word-length InvalidClient = lit≤ tt
-word-length InvalidGrant = lit≤ tt
-word-length InvalidScope = lit≤ tt
-word-length UnsupportedGrantType = lit≤ tt
-word-length UnsupportedResponseType = lit≤ tt
-word-length AccessDenied = lit≤ tt
-word-length TemporarilyUnavailable = lit≤ tt
-word-length ServerError = lit≤ tt
 
 -- the words in the order of their numbers, and so the table
 abbrev inOrder : List ErrorWord

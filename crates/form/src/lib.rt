@@ -35,17 +35,17 @@ pub struct Place {
 }
 
 // A part of the form, from its start up to its end.
-pub struct Span {
-    pub start: usize,
-    pub end: usize,
+struct Span {
+    start: usize,
+    end: usize,
 }
 
 // Where the reader is: at the start of a piece, or past the end of the form.
-pub struct Cursor {
-    pub at: usize,
+struct Cursor {
+    at: usize,
 }
 
-pub enum Step {
+enum Step {
     Piece(Span, Cursor),
     End,
 }
@@ -63,7 +63,7 @@ pub struct Form {
 
 impl Cursor {
     // At the start of a form.
-    pub fn new() -> Self
+    fn new() -> Self
         ensures { λ r. ⌜ r .at ≡ 0 ⌝ }
     {
         Cursor { at: 0 }
@@ -71,7 +71,7 @@ impl Cursor {
 
     // The piece at the cursor, and the cursor moved past it and its `&`. A form ends with a piece, so the end comes
     // one past the last byte.
-    pub fn next(self, s: &[u8]) -> Step
+    fn next(self, s: &[u8]) -> Step
         ensures { λ r. ⌜ r ≡ stepOf (now (s .entry)) (self .at) ⌝ }
     {
         let at = self.at;

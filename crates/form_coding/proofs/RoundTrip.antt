@@ -1,7 +1,7 @@
 -- What the writer writes of any bytes decodes to those bytes, is well formed, and holds no & and no =.
 --
 -- In order: one byte that is written, then all of them; separators, at which a text is read in two; the length of what is
--- decoded, and a text that is empty.
+-- written and of what is decoded, and a text that is empty.
 --
 -- Not here: how a function steps through a text (`Coding`), hex digits (`Rattle.encoding.proofs.Hex`).
 -- Assumes nothing.
@@ -12,7 +12,7 @@ use mathlib.Core.Bool.{true, false, not, _&&_, false≢true, and-assoc}
 use native.Mathlib.Omega.{arith}
 use borrow.Author.Tests.{lt-ltb, ne-eqb, eqb-true, eqb-false, not-true}
 use lib.Dec.{eqb, T}
-use lib.ListN.{length}
+use lib.ListN.{length, length-append}
 use Rattle.octets.specs.Lists.{Bytes}
 use Rattle.octets.proofs.Booleans.{by-test, to-T, of-T}
 use Rattle.octets.proofs.Lists.{tail-bytes}
@@ -20,7 +20,7 @@ use Rattle.octets.proofs.Table.{below, both-left, both-right}
 use Rattle.encoding.specs.Hex.{hexValue, hexDigit}
 use Rattle.encoding.proofs.Hex.{upper-round}
 use Rattle.form_coding.specs.Coding.{isEscape, plain, firstByte, extra, decodeAfter, decode, sound, wellFormed, isKept, encodeByte, encode, lacks}
-use Rattle.form_coding.proofs.Coding.{byte-kept, byte-space, byte-escape}
+use Rattle.form_coding.proofs.Coding.{byte-length, byte-kept, byte-space, byte-escape}
 
 -- ---- one byte that is written
 
@@ -135,7 +135,12 @@ module _ (x : ℕ) (s : Separator x) where
   well-apart [] b = rw (s .no-percent)
   well-apart (c ∷ a) b = rw (escape-apart c a b, well-apart a b) (sym (and-assoc (sound (c ∷ a)) (wellFormed a) (wellFormed b)))
 
--- ---- the length of what is decoded, and a text that is empty
+-- ---- the length of what is written, and of what is decoded, and a text that is empty
+
+pub encode-length : (l : List ℕ) → length (encode l) ≤ 3 * length l
+unfolding encode
+encode-length [] = omega arith
+encode-length (b ∷ t) = omega (arith, length-append (encodeByte b) (encode t), byte-length b .1, encode-length t)
 
 after-length : (k : ℕ) (l : List ℕ) → length (decodeAfter k l) ≤ length l
 unfolding decodeAfter

@@ -37,9 +37,9 @@ fn is_escape(v: &[u8], i: usize) -> bool
 }
 
 // A decoded byte, and how many bytes it is written in.
-pub struct Symbol {
-    pub byte: u8,
-    pub width: usize,
+struct Symbol {
+    byte: u8,
+    width: usize,
 }
 
 // The symbol that begins at i.

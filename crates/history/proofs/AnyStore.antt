@@ -9,24 +9,20 @@
 use mathlib.Core.Path.{_≡_, refl, ap, _∙_}
 use mathlib.Core.Bool.{Bool, true, false, not, _&&_, _||_, true≢false}
 use mathlib.Core.List.{List, []}
-use Prim.Native.Nat.{ℕ, _≤_, _<_}
+use Prim.Native.Nat.{ℕ, _≤_}
 use native.Mathlib.Nat.{zero-add}
-use native.Mathlib.Decide.{decLt}
 use native.Mathlib.Omega.{arith}
-use borrow.Author.Tests.{ltb-false}
 use lib.Dec.{ltb, lit<}
-use lib.ListN.{length, drop, List·getD-eq-default}
+use lib.ListN.{length, drop}
 use lib.Seq.{sets, sets-eq, length-sets, drop-append-seam}
 use Rattle.octets.specs.Text.{bytes}
 use Rattle.octets.specs.Lists.{Bytes, every}
 use Rattle.octets.specs.Search.{any}
-use Rattle.octets.proofs.Booleans.{or-none}
 use Rattle.form.specs.Content.{Value, formValue}
 use Rattle.client_registry.specs.Layout.{redirectRoom}
 use Rattle.client_registry.specs.Registry.{Client, fitRegistry, clientsOf}
-use Rattle.client_registry.specs.Lookup.{noClient, clientAt}
-use Rattle.client_registry.proofs.Fields.{redirect-text}
-use Rattle.client_registry.proofs.Clients.{fit-client}
+use Rattle.client_registry.specs.Lookup.{clientAt}
+use Rattle.client_registry.proofs.Clients.{redirect-most}
 use Rattle.token_store.specs.Layout.{latestTime}
 use Rattle.token_store.specs.Store.{Store, encode, decode, callTime}
 use Rattle.token_store.proofs.Codec.{time-at, encode-later}
@@ -38,13 +34,12 @@ use Rattle.protocol.specs.declared.Refusal.{Refusal}
 use Rattle.protocol.specs.declared.Refusal.the-variants.{Unfit, ErrorPage, Redirect, Token, Failed}
 use Rattle.protocol.specs.declared.Decision.{Decision}
 use Rattle.protocol.specs.declared.Decision.the-variants.{Refuse}
-use Rattle.protocol.specs.Limits.{leastOutput, codeRandom, tokenRandom}
 use Rattle.protocol.specs.Answers.{isGrant}
 use Rattle.protocol.specs.Authorization.{queryClient, locationText}
 use Rattle.protocol.specs.Granting.{firstHandle, decisionOn}
-use Rattle.protocol.specs.Outcomes.{unfitReasons, Handed, Endpoint, Outcome, admit, outcomeBy, outcome, unfitBuffers, serveAuthorization, authorizationEndpoint, replyText, serveToken, tokenEndpoint, serveCheck, checkEndpoint, clockAlone}
+use Rattle.protocol.specs.Outcomes.{unfitReasons, Handed, Endpoint, Outcome, admit, outcomeBy, outcome, serveAuthorization, authorizationEndpoint, replyText, serveToken, tokenEndpoint, serveCheck, checkEndpoint, clockAlone}
 use Rattle.protocol.proofs.Reasons.{stop, pass, first-counts, grant-every}
-use Rattle.protocol.proofs.Lengths.{location-length, reply-length}
+use Rattle.protocol.proofs.Lengths.{location-fits, reply-fits}
 use Rattle.history.specs.Calls.{Call, authorization, token, check, handedTo, WellTyped, Answer, authorizationAnswer, tokenAnswer, checkAnswer, answering, outcomeOf, isUnfit}
 use Rattle.history.specs.Contents.{asked, isGranted}
 use Rattle.history.specs.AnyStore.{buffersUnfit, inputs, isFitFor, isUnfitInput, FirstUnfit, unfitAnswer, unfitOutcome, decisionIn, refusalText, refusalAnswer, lengthOf, withClock, done, output, Demand1}
@@ -106,18 +101,6 @@ module _ (registry store : List ℕ) where
 
 -- ---- what is written
 
--- the room of a call whose buffers are fit
-room : (n : ℕ) (handed : Handed) → unfitBuffers n (handed .random) (handed .output) ≡ false → leastOutput ≤ length (handed .output)
-room n handed e = ltb-false (length (handed .output)) leastOutput (or-none (ltb (length (handed .output)) leastOutput) _ e .0)
-
--- no address is longer than its field, and where there is no client there is none
-redirect-most : (registry : List ℕ) → fitRegistry registry ≡ true → (n : ℕ) → length (clientAt (clientsOf registry) n .redirect) ≤ redirectRoom
-redirect-most registry fit n = by (decLt n (length (clientsOf registry)))
-  where
-    by : Dec (n < length (clientsOf registry)) → length (clientAt (clientsOf registry) n .redirect) ≤ redirectRoom
-    by (yes h) = redirect-text (clientAt (clientsOf registry) n .redirect) (fit-client registry fit n h .redirect-sound) .most
-    by (no h) = rw (List·getD-eq-default (clientsOf registry) noClient {n = n} (omega arith)) (omega arith)
-
 -- an answer with a text at the start of the output, which it fits
 pub record Written (before : List ℕ) (o : Outcome Answer) : Type 0 where
   pub text : List ℕ
@@ -143,22 +126,19 @@ module _ (clients : List Client) (short : (n : ℕ) → length (clientAt clients
   written-on (authorization query decision farm handed) e =
       let decided = decisionOn (planOn clients g (authorization query decision farm handed)) in
       let redirect = clientAt clients (queryClient clients query) .redirect in
-      let state = formValue query (bytes "state") in
-      let most = location-length redirect (short (queryClient clients query)) state (handed .random) decided in
       record {
-        text = locationText redirect state (firstHandle (handed .random)) decided;
+        text = locationText redirect (formValue query (bytes "state")) (firstHandle (handed .random)) decided;
         put = refl;
         long = refl;
-        fits = omega (arith, most, room codeRandom handed e);
+        fits = location-fits handed clients (callTime g (handed .clock)) (g .slots) query decision farm short e;
       }
   written-on (token header body handed) e =
       let plan = planOn clients g (token header body handed) in
-      let most = reply-length (handed .random) plan (decisionOn plan) in
       record {
         text = replyText (handed .random) plan (decisionOn plan);
         put = refl;
         long = refl;
-        fits = omega (arith, most, room tokenRandom handed e);
+        fits = reply-fits handed clients (callTime g (handed .clock)) (g .slots) header body e;
       }
   written-on (check presented clock) e = record { text = []; put = refl; long = refl; fits = omega arith }
 

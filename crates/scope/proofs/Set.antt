@@ -1,7 +1,7 @@
 -- Laws of scope sets: what is in a set that was joined, met or compared, and sets that have the same names.
 --
 -- In order: one binary digit; `has` of the operations and of the two named sets; joining again; a set is the set of its
--- names, for numbers of any number of digits; the bound of `meet`; `isWithin` as a fact of every name.
+-- names, for numbers of any number of digits; the bound of `meet`; `isWithin` as a fact of every name, and of the full set.
 --
 -- Not here: the laws of `bitOr` and `bitAnd` that do not speak of `has` (`lib.Bits`); the names as texts (`Names`).
 -- Assumes nothing.
@@ -19,7 +19,7 @@ use lib.ListN.{replicate}
 use lib.Pow.{shr-shr}
 use Rattle.octets.proofs.Booleans.{and-right, and-implied, of-T}
 use Rattle.octets.proofs.Table.{at}
-use Rattle.scope.specs.Set.{has, emptySet, fullSet, meet, isWithin}
+use Rattle.scope.specs.Set.{has, ofByte, emptySet, fullSet, meet, isWithin}
 use Rattle.scope.specs.declared.Scope.{Scope}
 
 -- ---- one binary digit
@@ -128,3 +128,7 @@ has-within a b ha h =
     let y = b .bits in
     eq-eqb (bitAnd x y) x
     (same-members 8 (bitAnd x y) x (meet-bound a b ha) ha (λ k l. has-meet x y k ∙ and-implied (has x k) (has y k) (h k l)))
+
+-- every set is within the full one
+pub meet-full : (n : ℕ) → n < 256 → meet (ofByte n) fullSet ≡ ofByte n
+meet-full n h = ap ofByte (eqb-true (bitAnd n 255) n (has-within (ofByte n) fullSet h (λ k l e. has-full k l)))

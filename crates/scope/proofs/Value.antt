@@ -1,22 +1,22 @@
 -- Laws of scope values, as a whole: what is read of a text, and what is written of a set.
 --
--- In order: a set that was read, its bounds and its names; two values of the same names; what is written, its bytes, its
--- length, and that it is read as it was meant.
+-- In order: a set that was read, its bounds and its names; two values of the same names; the length of what is
+-- written, and that it is read as it was meant.
 --
 -- Not here: one step of the reader or of the writer (`Steps`); the number of one name (`Names`); sets alone (`Set`).
 -- Assumes nothing.
-use Prim.Native.Nat.{ℕ, _≤_, _<_}
+use Prim.Native.Nat.{ℕ, suc, _+_, _-_, _≤_, _<_}
 use mathlib.Core.Path.{_≡_, refl, sym, _∙_, ap, ap₂}
 use mathlib.Core.Bool.{Bool, true, false, _&&_, _||_, false≢true, or-true}
 use mathlib.Core.List.{List, [], _∷_}
 use native.Mathlib.Omega.{arith}
-use borrow.Author.Tests.{eqb-true, eqb-false, ne-eqb, not-true, leb-true}
+use borrow.Author.Tests.{eqb-true, eqb-false, ne-eqb, not-true}
 use lib.Bits.{bitOr, or-lt, or-add-and, and-le-r}
-use lib.Dec.{T, eqb, leb}
-use lib.ListN.{length, replicate}
+use lib.Dec.{T, eqb}
+use lib.ListN.{length, replicate, length-append}
 use Rattle.octets.specs.Lists.{every, same, splitOn, grow}
 use Rattle.octets.proofs.Pieces.{split-first}
-use Rattle.octets.proofs.Booleans.{by-test, and-left, and-right, both-ways, of-T}
+use Rattle.octets.proofs.Booleans.{by-test, and-left, and-right, both-ways, cond-of, of-T}
 use Rattle.octets.proofs.Lists.{same-refl, same-eq}
 use Rattle.octets.proofs.Table.{everyFrom, at}
 use Rattle.scope.specs.Set.{names, nameAt, has, ofByte}
@@ -96,7 +96,37 @@ pub read-members : (v w : List ℕ) → ((n : List ℕ) → isAmong n (splitOn 3
 unfolding readScope
 read-members v w h = rw (every-same (splitOn 32 v) (splitOn 32 w) h isName, union-same (splitOn 32 v) (splitOn 32 w) h)
 
--- ---- what is written
+-- ---- the length of what is written
+
+-- what texts take with a space behind each
+total : List (List ℕ) → ℕ
+total [] = 0
+total (n ∷ ns) = length n + 1 + total ns
+
+spaced-length : (ns : List (List ℕ)) → length (spaced ns) ≤ total ns - 1
+unfolding spaced total
+spaced-length [] = omega arith
+spaced-length (n ∷ []) = omega arith
+spaced-length (n ∷ m ∷ ms) = omega (arith, length-append n (32 ∷ spaced (m ∷ ms)), spaced-length (m ∷ ms))
+
+chosen-total : (set k : ℕ) (ns : List (List ℕ)) → total (chosen set k ns) ≤ total ns
+unfolding chosen total
+chosen-total set k [] = omega arith
+chosen-total set k (n ∷ ns) =
+    let rest = chosen-total set (suc k) ns in
+    cond-of (λ l. total l ≤ length n + 1 + total ns) (has set k) (n ∷ chosen set (suc k) ns) (chosen set (suc k) ns)
+    (λ e. omega (arith, rest)) (λ e. omega (arith, rest))
+
+all-names : total names ≡ 49
+unfolding total names
+all-names = refl
+
+-- all eight names take 48
+pub text-length : (set : ℕ) → length (scopeText set) ≤ 48
+unfolding scopeText
+text-length set = omega (arith, spaced-length (chosen set 0 names), chosen-total set 0 names, all-names)
+
+-- ---- what is written of a set that is not empty says that set
 
 -- a value says the set
 says : ℕ → ScopeValue → Bool
@@ -108,9 +138,8 @@ unfolding says
 says-set set (Names s) e = ap (λ (b : ℕ). Names (ofByte b)) (eqb-true (s .bits) set e)
 says-set set Invalid e = absurd (false≢true e)
 
--- one set is written in at most 48 bytes, and what is written of one that is not empty says that set
 sound : ℕ → Bool
-sound set = let t = scopeText set in leb (length t) 48 && (eqb set 0 || says set (readScope t))
+sound set = eqb set 0 || says set (readScope (scopeText set))
 
 tested : T (everyFrom {A = ℕ} (λ set _. sound set) 0 (replicate 256 0))
 unfolding sound says scopeText chosen names spaced readScope every union bitOf bitFrom same splitOn grow
@@ -119,12 +148,7 @@ tested = tt
 sound-all : (set : ℕ) → set < 256 → sound set ≡ true
 sound-all set h = of-T (sound set) (at {A = ℕ} (λ k _. sound k) 0 (replicate 256 0) tested set h)
 
-pub text-length : (set : ℕ) → set < 256 → length (scopeText set) ≤ 48
-unfolding sound
-text-length set h = leb-true (length (scopeText set)) 48 (and-left (leb (length (scopeText set)) 48) _ (sound-all set h))
-
 pub read-written : (set : ℕ) → 0 < set → set < 256 → readScope (scopeText set) ≡ Names (record { bits = set })
 unfolding sound
 read-written set p h =
-    let t : (eqb set 0 || says set (readScope (scopeText set))) ≡ true = and-right (leb (length (scopeText set)) 48) _ (sound-all set h) in
-    says-set set (readScope (scopeText set)) (rw (ne-eqb set 0 (λ z. omega arith)) at t)
+    says-set set (readScope (scopeText set)) (rw (ne-eqb set 0 (λ z. omega arith)) at (sound-all set h))

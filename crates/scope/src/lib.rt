@@ -19,11 +19,11 @@ impl Scope {
     // All eight names.
     pub const FULL: Scope = Scope { bits: 255 };
 
-    // The set whose number is b.
+    // The set whose number is b: each of its bits is one of the eight names.
     pub fn from_byte(b: u8) -> Self
         ensures { λ r. ⌜ r ≡ ofByte b ⌝ }
     {
-        Scope { bits: b }
+        Scope { bits: b }.meet(Scope::FULL)
     }
 
     // The names of either set.

@@ -9,7 +9,7 @@ ghost use Rattle.token_store.specs.Layout.{storeSize, slotCount, handleS
 ghost use Rattle.token_store.specs.Store.{decode, slotOf, isLive};
 
 // Where slot i starts.
-pub fn slot_start(i: usize) -> usize
+pub(crate) fn slot_start(i: usize) -> usize
     requires { ⌜ i < slotCount ⌝ }
     ensures { λ r. ⌜ r ≡ slotStart i ⌝ }
 {
@@ -18,7 +18,7 @@ pub fn slot_start(i: usize) -> usize
 
 // ---- single fields: a scan of the store looks at no others
 
-pub fn kind_of(store: &[u8], i: usize) -> u8
+pub(crate) fn kind_of(store: &[u8], i: usize) -> u8
     requires { ⌜ (length (now store) ≡ storeSize) × (i < slotCount) ⌝ }
     ensures { λ r. ⌜ r ≡ slotOf (decode (now (store .entry))) i .kind ⌝ }
 {
@@ -33,7 +33,7 @@ fn expiry_of(store: &[u8], i: usize) -> u64
 }
 
 // Whether slot i has this handle, in use or not.
-pub fn has_handle(store: &[u8], i: usize, handle: &[u8]) -> bool
+pub(crate) fn has_handle(store: &[u8], i: usize, handle: &[u8]) -> bool
     requires { ⌜ (length (now store) ≡ storeSize) × (i < slotCount) ⌝ }
     ensures { λ r. ⌜ r ≡ same (now (handle .entry)) (slotOf (decode (now (store .entry))) i .handle) ⌝ }
 {
@@ -43,7 +43,7 @@ pub fn has_handle(store: &[u8], i: usize, handle: &[u8]) -> bool
 }
 
 // Whether slot i is in use and has not run out at t.
-pub fn is_live(store: &[u8], i: usize, t: u64) -> bool
+pub(crate) fn is_live(store: &[u8], i: usize, t: u64) -> bool
     requires { ⌜ (length (now store) ≡ storeSize) × (i < slotCount) ⌝ }
     ensures { λ r. ⌜ r ≡ isLive t (slotOf (decode (now (store .entry))) i) ⌝ }
 {

@@ -57,7 +57,7 @@ pub enum Found {
 }
 
 // Where there is room for one slot more: the number of a slot that is free or has run out, or nowhere.
-pub enum Vacancy {
+pub(crate) enum Vacancy {
     At(usize),
     Full,
 }

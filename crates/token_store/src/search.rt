@@ -54,7 +54,7 @@ pub fn find(store: &[u8], sought: Sought, presented: HandleText) -> Found
 }
 
 // The lowest slot that is free or has run out at t.
-pub fn vacant(store: &[u8], t: u64) -> Vacancy
+pub(crate) fn vacant(store: &[u8], t: u64) -> Vacancy
     requires { ⌜ length (now store) ≡ storeSize ⌝ }
     ensures { λ r. ⌜ r ≡ vacancyAt (indexWhere (isVacant t) (decode (now (store .entry)) .slots)) ⌝ }
 {

@@ -7,7 +7,7 @@ ghost use Rattle.token_store.specs.Layout.{storeSize};
 ghost use Rattle.token_store.specs.Store.{decode, withTime, callTime, lifetimeOf, kindLast};
 
 // The latest time seen.
-pub fn time_of(store: &[u8]) -> u64
+pub(crate) fn time_of(store: &[u8]) -> u64
     requires { ⌜ length (now store) ≡ storeSize ⌝ }
     ensures { λ r. ⌜ r ≡ decode (now (store .entry)) .time ⌝ }
 {

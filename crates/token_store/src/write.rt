@@ -26,7 +26,7 @@ fn slot_bytes(s: Slot) -> [u8; layout::SLOT_SIZE]
 }
 
 // Writes slot i; nothing else changes.
-pub fn put(store: &mut [u8], i: usize, s: Slot)
+fn put(store: &mut [u8], i: usize, s: Slot)
     requires { ⌜ (length (now store) ≡ storeSize) × (i < slotCount) ⌝ }
     ensures { λ _. ⌜ decode (now (store .exit)) ≡ withSlot (decode (now (store .entry))) i s ⌝ }
 {

@@ -38,7 +38,7 @@ append-next-requires c κs =
     let start = c .before .before .before .before .before in
     let l = c .before .before .before .loop in
     let left = simp length-append at (ap length (here (c .before))) in
-    (search needs, omega (arith, left, l .inv .2 .end, text-length (start .args .set .bits) (omega arith), start .pre, l .inv .1))
+    (search needs, omega (arith, left, l .inv .2 .end, text-length (start .args .set .bits), start .pre, l .inv .1))
 
 loop-again : tie.Need-loop-again Inv-loop μ-loop
 loop-again c =
