@@ -8,8 +8,8 @@
 -- Not here: tests and runs of stores in general (octets).
 -- Assumes nothing.
 use Prim.Native.Nat.{ℕ, suc, _+_, _*_, _/_, _%_, _≤_, _<_}
-use mathlib.Core.Path.{_≡_, refl, _∙_}
-use mathlib.Core.Bool.{Bool, true, false, not, _&&_, _||_, and-eq-true-iff}
+use mathlib.Core.Path.{_≡_, refl, sym, ap, _∙_}
+use mathlib.Core.Bool.{Bool, true, false, not, _&&_, _||_, and-eq-true-iff, false≢true}
 use mathlib.Core.List.{List, [], _∷_}
 use mathlib.Core.Logic.{⊎-elim}
 use native.Mathlib.Numerals.{add-one}
@@ -18,9 +18,9 @@ use borrow.Author.Tests.{eqb-true, ltb-true, eq-eqb, ne-eqb}
 use lib.Dec.{leb, ltb, eqb}
 use lib.ListN.{length, drop, getD, set, replicate, drop-of-length-le}
 use lib.Seq.{sets, drop-cons}
-use Rattle.octets.specs.Lists.{Bytes, every}
-use Rattle.octets.proofs.Booleans.{and-left, and-right, or-cases, implies, within-high}
-use Rattle.octets.proofs.Lists.{every-at, tail-bytes}
+use Rattle.octets.specs.Lists.{Bytes, every, same}
+use Rattle.octets.proofs.Booleans.{by-test, and-left, and-right, or-cases, implies, within-high}
+use Rattle.octets.proofs.Lists.{every-at, same-eq, same-iff, tail-bytes}
 use Rattle.octets.proofs.Table.{below}
 use Rattle.encoding.specs.Hex.{hexValue, hexDigit, hexText, isLowerHex, isHandleText, unhex, readHandle}
 
@@ -181,3 +181,15 @@ read-invalid t e = rw e
 -- reading what was written
 pub handle-round : (h : List ℕ) → length h ≡ 20 → Bytes h → readHandle (hexText h) ≡ record { valid = true; bytes = h }
 handle-round h n b = read-valid (hexText h) (hex-valid h n b) ∙ rw (hex-round h b)
+
+-- a text presents a handle exactly when it is the handle's own
+pub same-handle : (t h : List ℕ) → length h ≡ 20 → Bytes h → same t (hexText h) ≡ (readHandle t .valid && same (readHandle t .bytes) h)
+same-handle t h n b = by-test (isHandleText t) valid other
+  where
+    valid : isHandleText t ≡ true → same t (hexText h) ≡ (readHandle t .valid && same (readHandle t .bytes) h)
+    valid e = rw (read-valid t e) (same-iff t (hexText h) (unhex t) h (λ p. ap unhex p ∙ hex-round h b) (λ p. sym (hex-exact t e) ∙ ap hexText p))
+
+    other : isHandleText t ≡ false → same t (hexText h) ≡ (readHandle t .valid && same (readHandle t .bytes) h)
+    other e =
+        rw (read-invalid t e)
+        (by-test (same t (hexText h)) (λ p. absurd (false≢true (sym e ∙ ap isHandleText (same-eq t (hexText h) p) ∙ hex-valid h n b))) (λ p. p))

@@ -12,6 +12,7 @@ use borrow.Author.Tests.{ltb-false, eqb-true, not-false}
 use lib.Dec.{eqb, ltb, lit<}
 use lib.ListN.{length}
 use lib.Seq.{sets, take-all}
+use Rattle.octets.specs.Lists.{Bytes}
 use Rattle.encoding.specs.Hex.{readHandle}
 use Rattle.encoding.specs.declared.HandleText.{HandleText}
 use Rattle.client_registry.specs.Registry.{Client, fitRegistry, clientsOf}
@@ -24,6 +25,7 @@ use Rattle.protocol.specs.declared.ErrorWord.{ErrorWord}
 use Rattle.protocol.specs.declared.ErrorWord.the-variants.{InvalidRequest, InvalidClient, InvalidGrant, InvalidScope, UnsupportedGrantType, UnsupportedResponseType, AccessDenied, TemporarilyUnavailable, ServerError}
 use Rattle.protocol.specs.declared.Input.{Input}
 use Rattle.protocol.specs.declared.Input.the-variants.{Buffers, Registry, Store as StoreInput, Clock}
+use Rattle.protocol.specs.declared.PageCause.the-variants.{Query}
 use Rattle.protocol.specs.declared.Failure.{Failure}
 use Rattle.protocol.specs.declared.Failure.the-variants.{NoRoom, Clash}
 use Rattle.protocol.specs.declared.Refusal.the-variants.{Unfit, ErrorPage, Redirect, Token, Failed}
@@ -31,19 +33,24 @@ use Rattle.protocol.specs.declared.Decision.{Decision}
 use Rattle.protocol.specs.declared.Decision.the-variants.{Grant, Refuse}
 use Rattle.protocol.specs.declared.Request.{Request}
 use Rattle.protocol.specs.declared.Request.the-variants.{Refused, Code, Exchange, Refresh}
+use Rattle.protocol.specs.declared.Reading.{Reading}
 use Rattle.protocol.specs.declared.LiveToken.{LiveToken}
 use Rattle.protocol.specs.declared.CheckAnswer.the-variants.{NotLive, Live}
 use Rattle.protocol.specs.Limits.{leastOutput, codeRandom, tokenRandom}
 use Rattle.protocol.specs.Answers.{isGrant, statusOf, wordStatus, failureStatus}
 use Rattle.protocol.specs.Refusals.{Reason, firstOf}
+use Rattle.protocol.specs.Requests.{refusedReading}
+use Rattle.protocol.specs.Authorization.{readAuthorization}
+use Rattle.protocol.specs.Token.{readToken}
 use Rattle.protocol.specs.Granting.{Plan, shownSlot, liveToken, refusedPlan, codePlan, exchangePlan, refreshPlan, planFor, planOf, decisionOn, slotsBy, slotsAfter, checkSlots}
 use Rattle.protocol.specs.Outcomes.{unfitReasons, Handed, Endpoint, Outcome, admit, outcomeBy, outcome, unfitBuffers, serveAuthorization, authorizationEndpoint, serveToken, tokenEndpoint, serveCheck, checkEndpoint, clockAlone}
-use Rattle.history.specs.Calls.{Call, authorization, token, check, handedTo, WellTyped, Answer, authorizationAnswer, tokenAnswer, checkAnswer, answering, outcomeOf, isUnfitRefusal, isUnfitDecision, isUnfitCheck, isUnfit}
-use Rattle.history.specs.Contents.{firstTwenty, lastTwenty, asked, isGranted, twenties}
+use Rattle.history.specs.Calls.{Call, authorization, token, check, handedTo, WellTyped}
+use Rattle.history.specs.Server.{Answer, authorizationAnswer, tokenAnswer, checkAnswer, answering, outcomeOf, isUnfitRefusal, isUnfitDecision, isUnfitCheck, isUnfit, isGranted}
+use Rattle.history.specs.Contents.{firstTwenty, lastTwenty, twenties}
 use Rattle.history.specs.AnyStore.{unfitAnswer, unfitOutcome}
 use Rattle.octets.proofs.Booleans.{or-none}
 use Rattle.protocol.proofs.Reasons.{unrefused, decided}
-use Rattle.history.proofs.Readings.{FitClients, TwoHandles, second-last, Brings, authorization-brings, token-brings}
+use Rattle.history.proofs.Readings.{FitClients, OneHandle, TwoHandles, second-last, Brings, authorization-brings, token-brings}
 use Rattle.history.proofs.OneRequest.{denied-slots}
 
 -- ---- calls over a store as a record, past refusals 1 to 4
@@ -63,6 +70,12 @@ outcomeOn clients g (authorization query decision farm handed) =
     answering authorizationAnswer (servedOn (authorizationEndpoint query decision farm) clients g handed)
 outcomeOn clients g (token header body handed) = answering tokenAnswer (servedOn (tokenEndpoint header body) clients g handed)
 outcomeOn clients g (check presented clock) = answering checkAnswer (servedOn (checkEndpoint presented) clients g (clockAlone clock))
+
+-- what a call asks, read from its arguments; a check asks for nothing that could be granted
+unfoldable pub asked : List Client → Call → Reading
+asked clients (authorization query decision farm handed) = readAuthorization clients query decision farm
+asked clients (token header body handed) = readToken clients header body
+asked clients (check presented clock) = refusedReading (ErrorPage Query)
 
 -- ---- refusals 1 to 4
 
@@ -156,22 +169,24 @@ module _ (registry store : List ℕ) where
     unfolding admit
     past-clock = ltb-false latestTime (handedTo c .clock) (unrefused reasons past 3 (lit< tt))
 
-fit-size : (n : ℕ) (handed : Handed) → unfitBuffers n (handed .random) (handed .output) ≡ false → length (handed .random) ≡ n
+pub fit-size : (n : ℕ) (handed : Handed) → unfitBuffers n (handed .random) (handed .output) ≡ false → length (handed .random) ≡ n
 fit-size n handed e =
     let sized = eqb (length (handed .random)) n in
     eqb-true (length (handed .random)) n (not-false sized (or-none (ltb (length (handed .output)) leastOutput) (not sized) e .1))
 
-pub two-handles : (handed : Handed) → unfitBuffers tokenRandom (handed .random) (handed .output) ≡ false
+two-handles : (handed : Handed) → Bytes (handed .random) → unfitBuffers tokenRandom (handed .random) (handed .output) ≡ false
     → TwoHandles (handed .random) (firstTwenty (handed .random) ∷ lastTwenty (handed .random) ∷ [])
-two-handles handed e = let size = fit-size tokenRandom handed e in record { size = size; handles = rw (second-last (handed .random) size) }
+two-handles handed small e =
+    let size = fit-size tokenRandom handed e in record { size = size; small = small; handles = rw (second-last (handed .random) size) }
 
 pub call-brings : (clients : List Client) → FitClients clients → (c : Call) → WellTyped c → unfitTo c ≡ false
     → Brings (length clients) (handedTo c .random) (twenties c) (asked clients c .request)
 unfolding asked unfitTo handedTo twenties Brings isUnfitRefusal
 call-brings clients fit (authorization query decision farm handed) typed e =
     let size = fit-size codeRandom handed e in
-    authorization-brings clients fit (record { size = size; handles = rw (take-all 20 (handed .random) (omega arith)) }) query decision farm typed
-call-brings clients fit (token header body handed) typed e = token-brings clients (two-handles handed e) header body
+    let one : OneHandle (handed .random) (handed .random ∷ []) = record { size = size; small = typed .1; handles = rw (take-all 20 (handed .random) (omega arith)) } in
+    authorization-brings clients fit one query decision farm (typed .0)
+call-brings clients fit (token header body handed) typed e = token-brings clients (two-handles handed typed e) header body
 call-brings clients fit (check presented clock) typed e = refl
 
 -- ---- a call that is served, as the plan of its request

@@ -2,27 +2,24 @@
 --
 -- The first input that is unfit decides refusals 1 to 4, which leave all bytes. Past them the store is fit, so that it is read as a
 -- sound one (`fit-sound`): a call leaves it sound, and a refusal leaves its slots, which are written as they were read
--- (`encode-later`). What is written fits the output, which has 1,024 bytes then, as no location or reply is longer.
+-- (`encode-later`). What is written fits the output (Written).
 --
--- In order: the first unfit input; what is written; later refusals; the store that is left; the theorem.
+-- In order: the first unfit input; later refusals; the store that is left; the theorem.
 -- Assumes nothing.
 use mathlib.Core.Path.{_≡_, refl, ap, _∙_}
 use mathlib.Core.Bool.{Bool, true, false, not, _&&_, _||_, true≢false}
 use mathlib.Core.List.{List, []}
 use Prim.Native.Nat.{ℕ, _≤_}
-use native.Mathlib.Nat.{zero-add}
-use native.Mathlib.Omega.{arith}
 use lib.Dec.{ltb, lit<}
 use lib.ListN.{length, drop}
-use lib.Seq.{sets, sets-eq, length-sets, drop-append-seam}
+use lib.Seq.{sets}
 use Rattle.octets.specs.Text.{bytes}
 use Rattle.octets.specs.Lists.{Bytes, every}
 use Rattle.octets.specs.Search.{any}
 use Rattle.form.specs.Content.{Value, formValue}
-use Rattle.client_registry.specs.Layout.{redirectRoom}
+use Rattle.client_registry.proofs.Clients.{redirect-most}
 use Rattle.client_registry.specs.Registry.{Client, fitRegistry, clientsOf}
 use Rattle.client_registry.specs.Lookup.{clientAt}
-use Rattle.client_registry.proofs.Clients.{redirect-most}
 use Rattle.token_store.specs.Layout.{latestTime}
 use Rattle.token_store.specs.Store.{Store, encode, decode, callTime}
 use Rattle.token_store.proofs.Codec.{time-at, encode-later}
@@ -36,15 +33,15 @@ use Rattle.protocol.specs.declared.Decision.{Decision}
 use Rattle.protocol.specs.declared.Decision.the-variants.{Refuse}
 use Rattle.protocol.specs.Answers.{isGrant}
 use Rattle.protocol.specs.Authorization.{queryClient, locationText}
-use Rattle.protocol.specs.Granting.{firstHandle, decisionOn}
-use Rattle.protocol.specs.Outcomes.{unfitReasons, Handed, Endpoint, Outcome, admit, outcomeBy, outcome, serveAuthorization, authorizationEndpoint, replyText, serveToken, tokenEndpoint, serveCheck, checkEndpoint, clockAlone}
+use Rattle.protocol.specs.Granting.{firstHandle}
+use Rattle.protocol.specs.Outcomes.{unfitReasons, Handed, Endpoint, Outcome, admit, outcomeBy, outcome, serveAuthorization, authorizationEndpoint, replyText, serveToken, tokenEndpoint, checkEndpoint, clockAlone}
 use Rattle.protocol.proofs.Reasons.{stop, pass, first-counts, grant-every}
-use Rattle.protocol.proofs.Lengths.{location-fits, reply-fits}
-use Rattle.history.specs.Calls.{Call, authorization, token, check, handedTo, WellTyped, Answer, authorizationAnswer, tokenAnswer, checkAnswer, answering, outcomeOf, isUnfit}
-use Rattle.history.specs.Contents.{asked, isGranted}
-use Rattle.history.specs.AnyStore.{buffersUnfit, inputs, isFitFor, isUnfitInput, FirstUnfit, unfitAnswer, unfitOutcome, decisionIn, refusalText, refusalAnswer, lengthOf, withClock, done, output, Demand1}
+use Rattle.history.specs.Calls.{Call, authorization, token, check, handedTo, WellTyped}
+use Rattle.history.specs.Server.{Answer, authorizationAnswer, tokenAnswer, checkAnswer, answering, outcomeOf, isUnfit, isGranted, lengthOf}
+use Rattle.history.specs.AnyStore.{buffersUnfit, inputs, isFitFor, isUnfitInput, FirstUnfit, unfitAnswer, unfitOutcome, decisionIn, refusalText, refusalAnswer, withClock, done, output, Demand1}
 use Rattle.history.proofs.SoundStores.{sound-fit, fit-sound}
-use Rattle.history.proofs.AnyCall.{outcomeOn, unfitTo, isPast, TakenCall, unseen, seen, refused-unfit, take, seen-past, past-buffers, past-registry, past-store, planOn, leftBy, store-on, fit-on, refused-left}
+use Rattle.history.proofs.AnyCall.{outcomeOn, unfitTo, isPast, TakenCall, unseen, seen, refused-unfit, take, seen-past, past-buffers, past-registry, past-store, leftBy, store-on, fit-on, refused-left}
+use Rattle.history.proofs.Written.{textOn, Written, written-within, written-sized, written-beyond, written-on, unfit-written}
 use Rattle.history.proofs.AllCalls.{brings, sound-left}
 
 -- ---- the first unfit input
@@ -99,55 +96,6 @@ module _ (registry store : List ℕ) where
   unfit-done (token header body handed) i e = refused-at tokenAnswer (tokenEndpoint header body) handed i e
   unfit-done (check presented clock) i e = refused-at checkAnswer (checkEndpoint presented) (clockAlone clock) i e
 
--- ---- what is written
-
--- an answer with a text at the start of the output, which it fits
-pub record Written (before : List ℕ) (o : Outcome Answer) : Type 0 where
-  pub text : List ℕ
-  pub put : o .output ≡ sets before 0 text
-  pub long : lengthOf (o .answer) ≡ length text
-  pub fits : length text ≤ length before
-
-module _ {before : List ℕ} {o : Outcome Answer} (w : Written before o) where
-  written-within : lengthOf (o .answer) ≤ length before
-  written-within = omega (arith, w .long, w .fits)
-
-  written-sized : length (o .output) ≡ length before
-  written-sized = ap length (w .put) ∙ length-sets before 0 (w .text)
-
-  written-beyond : drop (lengthOf (o .answer)) (o .output) ≡ drop (lengthOf (o .answer)) before
-  written-beyond =
-      rw (w .long, w .put, sets-eq (w .text) before 0 (omega (arith, w .fits)), zero-add)
-      (drop-append-seam (w .text) (drop (length (w .text)) before))
-
-module _ (clients : List Client) (short : (n : ℕ) → length (clientAt clients n .redirect) ≤ redirectRoom) (g : Store) where
-  written-on : (c : Call) → unfitTo c ≡ false → Written (handedTo c .output) (outcomeOn clients g c)
-  unfolding unfitTo handedTo outcomeOn serveAuthorization serveToken serveCheck lengthOf asked
-  written-on (authorization query decision farm handed) e =
-      let decided = decisionOn (planOn clients g (authorization query decision farm handed)) in
-      let redirect = clientAt clients (queryClient clients query) .redirect in
-      record {
-        text = locationText redirect (formValue query (bytes "state")) (firstHandle (handed .random)) decided;
-        put = refl;
-        long = refl;
-        fits = location-fits handed clients (callTime g (handed .clock)) (g .slots) query decision farm short e;
-      }
-  written-on (token header body handed) e =
-      let plan = planOn clients g (token header body handed) in
-      record {
-        text = replyText (handed .random) plan (decisionOn plan);
-        put = refl;
-        long = refl;
-        fits = reply-fits handed clients (callTime g (handed .clock)) (g .slots) header body e;
-      }
-  written-on (check presented clock) e = record { text = []; put = refl; long = refl; fits = omega arith }
-
-unfit-written : (store : List ℕ) (c : Call) (i : Input) → Written (handedTo c .output) (unfitOutcome store c i)
-unfolding unfitAnswer lengthOf
-unfit-written store (authorization query decision farm handed) i = record { text = []; put = refl; long = refl; fits = omega arith }
-unfit-written store (token header body handed) i = record { text = []; put = refl; long = refl; fits = omega arith }
-unfit-written store (check presented clock) i = record { text = []; put = refl; long = refl; fits = omega arith }
-
 -- ---- later refusals
 
 -- no text of a refusal has the handle
@@ -178,14 +126,23 @@ module _ (registry : List ℕ) (bytes : Bytes registry) (store : List ℕ) (stor
   abbrev clients : List Client
   clients = clientsOf registry
 
-  written : Written (output registry store c) (done registry store c)
+  -- what is answered is within the output, whose other bytes stay
+  pub record Within : Type 0 where
+    pub short : lengthOf (done registry store c .answer) ≤ length (output registry store c)
+    pub sized : length (done registry store c .output) ≡ length (output registry store c)
+    pub beyond : let long = lengthOf (done registry store c .answer) in drop long (done registry store c .output) ≡ drop long (output registry store c)
+
+  written : Within
   written = by (take registry store c)
     where
-      by : TakenCall registry store c → Written (output registry store c) (done registry store c)
-      by (unseen i n e) = rw e (unfit-written store c i)
+      within : {text : List ℕ} → Written (output registry store c) (done registry store c) text → Within
+      within w = record { short = written-within w; sized = written-sized w; beyond = written-beyond w }
+
+      by : TakenCall registry store c → Within
+      by (unseen i n e) = within {text = []} (rw e (unfit-written store c i))
       by (seen past e) =
-          let short = redirect-most registry (past-registry registry store c past) in
-          rw e (written-on clients short (decode store) c (past-buffers registry store c past))
+          let least = redirect-most registry (past-registry registry store c past) in
+          within {text = textOn clients (decode store) c} (rw e (written-on clients least (decode store) c (past-buffers registry store c past)))
 
   unfit-told : isUnfit (done registry store c .answer) ≡ not (isPast registry store c)
   unfit-told = by (take registry store c)
@@ -230,7 +187,7 @@ demand1 registry bytes store stored c typed = record {
   answers = refused-answers registry bytes store stored c typed;
   refused = refused-store registry bytes store stored c typed;
   staysFit = stays-fit registry bytes store stored c typed;
-  within = written-within (written registry bytes store stored c typed);
-  sized = written-sized (written registry bytes store stored c typed);
-  beyond = written-beyond (written registry bytes store stored c typed);
+  within = written registry bytes store stored c typed .short;
+  sized = written registry bytes store stored c typed .sized;
+  beyond = written registry bytes store stored c typed .beyond;
 }

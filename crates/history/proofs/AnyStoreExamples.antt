@@ -11,6 +11,7 @@ use lib.ListN.{length, take, replicate}
 use Rattle.octets.specs.Text.{bytes}
 use Rattle.octets.specs.Lists.{Bytes, every, same}
 use Rattle.octets.specs.Search.{any}
+use Rattle.octets.proofs.Lists.{zero-bytes}
 use Rattle.octets.specs.BigEndian.{bigEndianFrom, bigEndianBytes}
 use Rattle.client_registry.specs.Registry.{soundText, soundId, soundRedirect, soundSecret, soundField, soundCommon, soundPublic, soundConfidential, soundRecord, recordSize, recordsBehind, soundRecords, clientsOf, distinct, fitRegistry}
 use Rattle.client_registry.specs.Sample.{recordOf, registryOf, sampleConfidential, samplePublic, sampleClients, sampleRegistry}
@@ -26,13 +27,13 @@ use Rattle.protocol.specs.declared.CheckAnswer.the-variants.{Refused, NotLive, 
 use Rattle.protocol.specs.Answers.{inputNumber, refusalNumber}
 use Rattle.protocol.specs.Refusals.{firstOf}
 use Rattle.protocol.specs.Outcomes.{Handed, admit, outcomeBy, outcome}
-use Rattle.history.specs.Calls.{Call, authorization, token, check, handedTo, Answer, authorizationAnswer, tokenAnswer, checkAnswer, outcomeOf, storeAfter, freshStore}
-use Rattle.history.specs.Contents.{isGranted}
-use Rattle.history.specs.AnyStore.{buffersUnfit, inputs, isUnfitInput, unfitOutcome, lengthOf, Demand1}
-use Rattle.history.proofs.SoundStores.{sound-fresh, sound-fit, zero-bytes}
+use Rattle.history.specs.Calls.{Call, authorization, token, check, handedTo, freshStore}
+use Rattle.history.specs.Server.{Answer, authorizationAnswer, tokenAnswer, checkAnswer, outcomeOf, isGranted, lengthOf, ours}
+use Rattle.history.specs.AnyStore.{buffersUnfit, inputs, isUnfitInput, unfitOutcome, Demand1}
+use Rattle.history.proofs.SoundStores.{sound-fresh, sound-fit}
 use Rattle.history.proofs.AllCalls.{fresh-bytes}
 use Rattle.history.proofs.AnyStore.{demand1}
-use Rattle.history.proofs.Visit.{sample-fit, sample-bytes}
+use Rattle.history.proofs.Sample.{sample-fit, sample-bytes}
 
 -- ---- unfit inputs
 
@@ -127,6 +128,6 @@ past-1000 : any (isUnfitInput sampleRegistry freshStore (check (bytes "lost") 10
 unfolding any isUnfitInput buffersUnfit handedTo
 past-1000 = rw (sample-fit, fresh-fit)
 
-pub clock-kept : take 9 (storeAfter sampleRegistry freshStore (check (bytes "lost") 1000)) ≡ 0 ∷ 0 ∷ 0 ∷ 0 ∷ 0 ∷ 0 ∷ 3 ∷ 232 ∷ 0 ∷ []
+pub clock-kept : take 9 (ours sampleRegistry freshStore (check (bytes "lost") 1000) .store) ≡ 0 ∷ 0 ∷ 0 ∷ 0 ∷ 0 ∷ 0 ∷ 3 ∷ 232 ∷ 0 ∷ []
 unfolding outcomeOf isGranted handedTo freshStore bigEndianBytes bigEndianFrom
 clock-kept = let d = claims (bytes "lost") 1000 in ap (λ (b : List ℕ). take 9 b) (d .refused (d .told ∙ past-1000) refl)

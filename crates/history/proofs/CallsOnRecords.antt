@@ -1,28 +1,30 @@
--- Lists of calls over a store as a record, past refusals 1 to 4: by these examples compute, since they never write bytes.
+-- Lists of calls over a store as a record: by these examples compute, since they never write bytes.
 --
--- In order: what such calls are answered and leave; and that bytes and records say and leave the same (`replay`), for calls whose
--- buffers and clock are fit over a fit registry and a sound store.
+-- In order: what calls past refusals 1 to 4 are answered and leave; and that over a fit registry and a sound store bytes and records
+-- contain and leave the same (`replay`), where of a list the calls whose buffers and clock are fit are seen alone.
 -- Assumes nothing.
-use mathlib.Core.Path.{_≡_, refl, ap, ap₂, _∙_}
-use mathlib.Core.Bool.{Bool, true, not, _&&_, and-true}
+use mathlib.Core.Path.{_≡_, refl, sym, ap, _∙_}
+use mathlib.Core.Bool.{Bool, true, false, cond, not, _&&_, and-true, false≢true}
 use mathlib.Core.List.{List, [], _∷_}
 use Prim.Native.Nat.{ℕ}
 use lib.Dec.{ltb}
 use lib.ListN.{length}
 use Rattle.octets.specs.Lists.{Bytes, every}
-use Rattle.octets.proofs.Booleans.{and-left, and-right}
+use Rattle.octets.specs.Search.{keep}
 use Rattle.client_registry.specs.Registry.{Client, fitRegistry, clientsOf}
 use Rattle.token_store.specs.Layout.{latestTime}
 use Rattle.token_store.specs.Store.{Store, encode}
 use Rattle.protocol.specs.Outcomes.{unfitReasons, Outcome, admit}
 use Rattle.protocol.proofs.Reasons.{grant-every}
-use Rattle.history.specs.Calls.{Call, handedTo, AllWellTyped, Answer, outcomeOf, answerTo, storeAfterAll, Event, events}
+use Rattle.history.specs.Calls.{Call, handedTo, WellTyped, AllWellTyped, Result, storeAfterAll, Event, events}
+use Rattle.history.specs.Contents.{Contents, withEvent, withEvents}
+use Rattle.history.specs.Server.{Answer, outcomeOf, resultOf, ours}
 use Rattle.history.proofs.SoundStores.{Sound, sound-back, sound-fit}
-use Rattle.history.proofs.AnyCall.{outcomeOn, unfitTo, isPast, past-seen, leftBy, store-on}
-use Rattle.history.proofs.AllCalls.{sound-left}
+use Rattle.history.proofs.AnyCall.{outcomeOn, unfitTo, isPast, TakenCall, unseen, seen, refused-unfit, take, past-seen, leftBy, store-on, fit-on}
+use Rattle.history.proofs.AllCalls.{brings, sound-left}
 
-abbrev pub answerOn : List Client → Store → Call → Answer
-answerOn clients g c = outcomeOn clients g c .answer
+abbrev pub resultOn : List Client → Store → Call → Result
+resultOn clients g c = resultOf (outcomeOn clients g c)
 
 unfoldable pub leftByAll : List Client → Store → List Call → Store
 leftByAll clients g [] = g
@@ -30,7 +32,7 @@ leftByAll clients g (c ∷ cs) = leftByAll clients (leftBy clients g c) cs
 
 unfoldable pub eventsOn : List Client → Store → List Call → List Event
 eventsOn clients g [] = []
-eventsOn clients g (c ∷ cs) = record { call = c; answer = answerOn clients g c } ∷ eventsOn clients (leftBy clients g c) cs
+eventsOn clients g (c ∷ cs) = record { call = c; result = resultOn clients g c } ∷ eventsOn clients (leftBy clients g c) cs
 
 -- the call's buffers and clock are fit
 unfoldable pub isFitting : Call → Bool
@@ -40,44 +42,72 @@ module _ (registry : List ℕ) (bytes : Bytes registry) (fit : fitRegistry regis
   abbrev clients : List Client
   clients = clientsOf registry
 
-  fitting-past : (g : Store) → Sound (length clients) g → (c : Call) → isFitting c ≡ true → isPast registry (encode g) c ≡ true
-  unfolding isFitting admit every
-  fitting-past g w c e =
-      grant-every (unfitReasons (unfitTo c) registry (encode g) (handedTo c .clock)) ∙ rw (fit, sound-fit g w) (simp and-true e)
+  -- the calls contain and leave what those do that are served
+  pub record Replayed (g : Store) (cs served : List Call) : Type 0 where
+    pub same-contents : (k : Contents)
+        → withEvents clients k (events ours registry (encode g) cs) ≡ withEvents clients k (eventsOn clients g served)
+    pub same-store : storeAfterAll ours registry (encode g) cs ≡ encode (leftByAll clients g served)
+    pub sound : Sound (length clients) (leftByAll clients g served)
 
-  fitting-served : (g : Store) → Sound (length clients) g → (c : Call) → isFitting c ≡ true
-      → outcomeOf registry (encode g) c ≡ outcomeOn clients g c
-  fitting-served g w c e =
-      past-seen registry (encode g) c (fitting-past g w c e) ∙ ap (λ (s : Store). outcomeOn clients s c) (sound-back g w)
+  module _ (g : Store) (w : Sound (length clients) g) (c : Call) where
+    -- no other input is unfit
+    past-fitting : isPast registry (encode g) c ≡ isFitting c
+    unfolding isFitting admit every
+    past-fitting = grant-every (unfitReasons (unfitTo c) registry (encode g) (handedTo c .clock)) ∙ rw (fit, sound-fit g w) (simp and-true)
 
-  pub record Replayed (g : Store) (cs : List Call) : Type 0 where
-    pub same-events : events registry (encode g) cs ≡ eventsOn clients g cs
-    pub same-store : storeAfterAll registry (encode g) cs ≡ encode (leftByAll clients g cs)
-    pub sound : Sound (length clients) (leftByAll clients g cs)
+    pub fitting-served : isFitting c ≡ true → outcomeOf registry (encode g) c ≡ outcomeOn clients g c
+    fitting-served e =
+        past-seen registry (encode g) c (past-fitting ∙ e) ∙ ap (λ (s : Store). outcomeOn clients s c) (sound-back g w)
 
-  pub replay : (g : Store) → Sound (length clients) g → (cs : List Call) → AllWellTyped cs → every isFitting cs ≡ true → Replayed g cs
-  unfolding events eventsOn storeAfterAll leftByAll AllWellTyped every
-  replay g w [] typed e = record { same-events = refl; same-store = refl; sound = w }
-  replay g w (c ∷ cs) typed e =
-      let p = and-left (isFitting c) (every isFitting cs) e in
-      let o = fitting-served g w c p in
-      let s = ap (λ (x : Outcome Answer). x .store) o ∙ store-on clients g c in
-      let past = fitting-past g w c p in
-      let r =
-      replay (leftBy clients g c) (sound-left registry bytes c (typed .0) (encode g) past g w) cs (typed .1)
-      (and-right (isFitting c) (every isFitting cs) e)
-      in
-      record {
-        same-events =
-            ap₂ {C = List Event} (λ a es. record { call = c; answer = a } ∷ es) (ap (λ (x : Outcome Answer). x .answer) o)
-            (ap (λ (b : List ℕ). events registry b cs) s ∙ r .same-events);
-        same-store = ap (λ (b : List ℕ). storeAfterAll registry b cs) s ∙ r .same-store;
-        sound = r .sound;
-      }
+    -- one call before others: it is seen, or leaves all as it was
+    seen-first : isFitting c ≡ true → {cs served : List Call} → Replayed (leftBy clients g c) cs served → Replayed g (c ∷ cs) (c ∷ served)
+    unfolding events eventsOn storeAfterAll leftByAll withEvents
+    seen-first e {cs = cs} r =
+        let o = fitting-served e in
+        let s = ap (λ (x : Outcome Answer). x .store) o ∙ store-on clients g c in
+        record {
+          same-contents = λ k.
+              let after : Outcome Answer → Contents = λ x. withEvent clients (record { call = c; result = resultOf x }) k in
+              ap (λ (x : Outcome Answer). withEvents clients (after x) (events ours registry (x .store) cs)) o
+              ∙ ap (λ (b : List ℕ). withEvents clients (after (outcomeOn clients g c)) (events ours registry b cs)) (store-on clients g c)
+              ∙ r .same-contents (after (outcomeOn clients g c));
+          same-store = ap (λ (b : List ℕ). storeAfterAll ours registry b cs) s ∙ r .same-store;
+          sound = r .sound;
+        }
 
-  -- the answer to one more call
-  pub replay-answer : (g : Store) (cs : List Call) → Replayed g cs → (c : Call) → isFitting c ≡ true
-      → answerTo registry (storeAfterAll registry (encode g) cs) c ≡ answerOn clients (leftByAll clients g cs) c
-  replay-answer g cs r c e =
-      ap (λ (b : List ℕ). answerTo registry b c) (r .same-store)
-      ∙ ap (λ (x : Outcome Answer). x .answer) (fitting-served (leftByAll clients g cs) (r .sound) c e)
+    unseen-first : isFitting c ≡ false → {cs served : List Call} → Replayed g cs served → Replayed g (c ∷ cs) served
+    unfolding events eventsOn storeAfterAll leftByAll withEvents withEvent
+    unseen-first e {cs = cs} {served = served} r = by (take registry (encode g) c)
+      where
+        by : TakenCall registry (encode g) c → Replayed g (c ∷ cs) served
+        by (unseen i n o) = record {
+          same-contents = λ k. rw (o, refused-unfit c i) (r .same-contents k);
+          same-store = rw o (r .same-store);
+          sound = r .sound;
+        }
+        by (seen p o) = absurd (false≢true (sym e ∙ sym past-fitting ∙ p))
+
+  pub replay : (g : Store) → Sound (length clients) g → (cs : List Call) → AllWellTyped cs → Replayed g cs (keep isFitting cs)
+  unfolding events eventsOn storeAfterAll leftByAll AllWellTyped keep
+  replay g w [] typed = record { same-contents = λ k. refl; same-store = refl; sound = w }
+  replay g w (c ∷ cs) typed = by (isFitting c) refl (λ h v. replay h v cs (typed .1))
+    where
+      by : (b : Bool) → isFitting c ≡ b → ((h : Store) → Sound (length clients) h → Replayed h cs (keep isFitting cs))
+          → Replayed g (c ∷ cs) (cond b (c ∷ keep isFitting cs) (keep isFitting cs))
+      by true e all =
+          seen-first g w c e (all (leftBy clients g c) (sound-left registry bytes c (typed .0) (encode g) (past-fitting g w c ∙ e) g w))
+      by false e all = unseen-first g w c e (all g w)
+
+  -- what comes of one more call
+  pub replay-result : (g : Store) (cs served : List Call) → Replayed g cs served → (c : Call) → isFitting c ≡ true
+      → ours registry (storeAfterAll ours registry (encode g) cs) c ≡ resultOn clients (leftByAll clients g served) c
+  replay-result g cs served r c e =
+      ap (λ (b : List ℕ). ours registry b c) (r .same-store) ∙ ap resultOf (fitting-served (leftByAll clients g served) (r .sound) c e)
+
+  -- which is not refused with 1 to 4
+  pub replay-fit : (g : Store) (cs served : List Call) → Replayed g cs served → (c : Call) → WellTyped c → isFitting c ≡ true
+      → ours registry (storeAfterAll ours registry (encode g) cs) c .unfit ≡ false
+  replay-fit g cs served r c typed e =
+      let left = leftByAll clients g served in
+      ap (λ (x : Result). x .unfit) (replay-result g cs served r c e)
+      ∙ fit-on clients left c (brings registry bytes c typed (encode left) (past-fitting left (r .sound) c ∙ e))

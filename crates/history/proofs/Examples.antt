@@ -1,53 +1,49 @@
--- The claim is not empty, and what server and claim say of some calls is what document 01 says: by computation, from the definitions.
+-- Demand 3 on some calls: what server and claim say of them is what document 01 says, by computation, from the definitions.
 --
--- In order: the calls, over the sample clients; the cases, each with what the paper says, what the server does and what the claim
--- asks; what some calls contain; the server's words; room for an exchange.
+-- In order: the calls, over the sample clients; the cases, each with what the paper says; what the server does, what the claim asks,
+-- and whether the case meets the claim's premises; what some calls contain; room.
 --
--- Not here: the same from the registry's and the store's bytes, and by the theorem (`Visit`).
+-- Not here: the same from the registry's and the store's bytes, by the theorem (`Visit`).
 -- Assumes nothing.
 use mathlib.Core.Path.{_≡_, refl}
-use mathlib.Core.Bool.{Bool, true, false, _&&_, Bool·beq}
+use mathlib.Core.Bool.{Bool, true, false, cond, _&&_, _||_, Bool·beq}
 use mathlib.Core.List.{List, [], _∷_, _++_}
-use Prim.Native.Nat.{ℕ, max}
+use Prim.Native.Nat.{ℕ, _+_, _*_, _-_, _^_, max}
+use lib.Dec.{ltb}
 use lib.ListN.{replicate}
 use Rattle.octets.specs.Text.{bytes}
-use Rattle.octets.specs.Lists.{every, same, indexOf, splitOn, grow}
-use Rattle.encoding.specs.Hex.{hexValue, readHandle, isHandleText, unhex}
+use Rattle.octets.specs.BigEndian.{bigEndianBytes}
+use Rattle.octets.specs.Lists.{part, every, same, indexOf, splitOn, grow}
+use Rattle.octets.specs.Search.{indexWhere, count, any, firstOr, replaceFirst, keep}
+use Rattle.encoding.specs.Hex.{hexText, hexDigit, hexValue, readHandle, isHandleText, unhex}
 use Rattle.encoding.specs.Base64.{isBase64, base64Bytes, groupBytes, soundGroup, sextet, none}
-use Rattle.encoding.specs.declared.HandleText.{HandleText}
-use Rattle.form_coding.specs.Coding.{decodeAfter, firstByte, extra, isEscape, plain, wellFormed, sound}
-use Rattle.form.specs.Content.{isWellFormedForm, pieceName, pieceValue, gives, add, valueIn, formValue, isMissing, isRepeated, onlyValue, isOnce}
+use Rattle.form_coding.specs.Coding.{decodeAfter, firstByte, extra, isEscape, plain, wellFormed, sound, encode, encodeByte}
+use Rattle.form.specs.Content.{Value, missing, once, isWellFormedForm, pieceName, pieceValue, gives, add, valueIn, formValue, isMissing, isRepeated, onlyValue, isOnce}
 use Rattle.scope.specs.Set.{names}
-use Rattle.scope.specs.Value.{bitFrom, bitOf, union, readScope}
+use Rattle.scope.specs.Value.{bitFrom, bitOf, union, readScope, chosen, spaced, scopeText}
 use Rattle.client_registry.specs.Registry.{distinct}
 use Rattle.client_registry.specs.Sample.{sampleConfidential, samplePublic, sampleClients}
-use Rattle.octets.specs.Search.{indexWhere, count, any, firstOr, replaceFirst, keep}
-use Rattle.token_store.specs.Store.{kindAccess, freeSlot, fresh}
+use Rattle.token_store.specs.Store.{encode as encodeStore, encodeSlot, concat, Store, kindBoundCode, kindAccess, kindRefresh, freeSlot, fresh}
 use Rattle.token_store.specs.declared.Slot.{Slot}
-use Rattle.protocol.specs.declared.ErrorWord.the-variants.{InvalidGrant, InvalidScope}
 use Rattle.protocol.specs.declared.Failure.the-variants.{NoRoom}
-use Rattle.protocol.specs.declared.Refusal.the-variants.{Token, Failed}
+use Rattle.protocol.specs.declared.Refusal.the-variants.{Failed}
 use Rattle.protocol.specs.declared.Decision.{Decision}
 use Rattle.protocol.specs.declared.Decision.the-variants.{Grant, Refuse}
-use Rattle.protocol.specs.declared.CodeRequest.{CodeRequest}
-use Rattle.protocol.specs.declared.ExchangeRequest.{ExchangeRequest}
-use Rattle.protocol.specs.declared.Request.{Request}
-use Rattle.protocol.specs.declared.Request.the-variants.{Refused, Code, Exchange, Refresh}
-use Rattle.protocol.specs.declared.CheckAnswer.the-variants.{Live}
-use Rattle.protocol.specs.Answers.{isGrant}
+use Rattle.protocol.specs.Answers.{isGrant, wordText}
 use Rattle.protocol.specs.Refusals.{firstOf}
 use Rattle.protocol.specs.Requests.{askedBy, scopeAsked, fits, scopeGiven, unlessRefused}
-use Rattle.protocol.specs.Authorization.{isBadQuery, queryClient, isBadClient, isBadRedirect, isSoundState, isBadState, isInvalidRequest, isOtherType, isInvalidScope, codeAsked, pageReasons, redirectReasons, readAuthorization}
+use Rattle.protocol.specs.Authorization.{isBadQuery, queryClient, isBadClient, isBadRedirect, isSoundState, isBadState, isInvalidRequest, isOtherType, isInvalidScope, codeAsked, pageReasons, redirectReasons, readAuthorization, separator, stateText, location, codeParameter, errorParameter, locationText}
 use Rattle.protocol.specs.ClientForms.{isInvalidForm, lowerCase, sameAnyCase, credentials, isBadHeader, headerId, headerSecret, presentedId, presentedSecret, isUnclearId, isImpostor, callClient, isInvalidClient, formReasons}
-use Rattle.protocol.specs.Token.{readExchange, readRefresh, readGrant, readToken}
-use Rattle.protocol.specs.Granting.{newCode, tokenOn, refusedPlan, codePlan, exchangePlan, refreshPlan, planFor, decisionOn, slotsBy, checkSlots}
-use Rattle.protocol.specs.Outcomes.{Handed, serveAuthorization, serveToken, serveCheck}
+use Rattle.protocol.specs.Token.{readExchange, readRefresh, readGrant, readToken, errorReply, refusalReply, tokenReply, refreshMember}
+use Rattle.protocol.specs.Granting.{refusedPlan, codePlan, exchangePlan, refreshPlan, planFor, planOf, decisionOn, slotsBy, checkSlots}
+use Rattle.protocol.specs.Outcomes.{Handed, serveAuthorization, replyText, serveToken, serveCheck}
 use Rattle.protocol.proofs.Starred.{countUp, rfcQuery}
-use Rattle.history.specs.Calls.{Call, authorization, token, check, handedTo, Answer, authorizationAnswer, tokenAnswer, checkAnswer, isUnfitRefusal, isUnfitDecision, isUnfitCheck, isUnfit}
-use Rattle.history.specs.Contents.{access, refresh, Issue, codeIssue, tokenIssue, noIssue, isWithinGranted, askedOr, issuedBy, isEndedBy, asked, afterGrant, isGranted, Contents, nothingYet, withEvent, withEvents, twenties}
-use Rattle.history.specs.Claim.{mayExchange, mayRefresh, mayPass, isLiveCheck, isLiveAnswer}
-use Rattle.history.proofs.AnyCall.{outcomeOn}
-use Rattle.history.proofs.CallsOnRecords.{answerOn, leftByAll, eventsOn}
+use Rattle.history.specs.Calls.{Call, authorization, token, check, handedTo, Result}
+use Rattle.history.specs.Contents.{Sort, code, access, refresh, Issue, noIssue, isExchange, isRefresh, noneBeyond, isWithinGranted, namesOr, askedOr, codeIssue, exchangeIssues, refreshIssues, issuedBy, isEndedBy, standingAfter, Contents, nothingYet, withEvent, withEvents, twenties}
+use Rattle.history.specs.Claim.{idIn, isAdmitted, isRepeatedBy, mayExchange, mayRefresh, mayPass}
+use Rattle.history.specs.Server.{isUnfitRefusal, isUnfitDecision, isUnfitCheck, isUnfit, isGranted, lengthOf, isLiveCheck, namedBy, isPassed, namedIn}
+use Rattle.history.proofs.AnyCall.{outcomeOn, asked, unfitTo}
+use Rattle.history.proofs.CallsOnRecords.{resultOn, leftByAll, eventsOn, isFitting}
 
 -- ---- the calls
 
@@ -63,201 +59,341 @@ authorizeAt clock first = authorization rfcQuery 1 7 (handedAt clock 20 first)
 unfoldable pub header : List ℕ
 header = bytes "Basic czZCaGRSa3F0MzpnWDFmQmF0M2JW"
 
--- "Exchange of that code .., its redirect_uri repeated"
-unfoldable pub body : List ℕ
-body = bytes "grant_type=authorization_code&code=000102030405060708090a0b0c0d0e0f10111213&redirect_uri=https%3A%2F%2Fclient%2Eexample%2Ecom%2Fcb"
+-- an exchange by the first client, which repeats its redirect_uri, or does not
+unfoldable pub exchangeOf : List ℕ → List ℕ
+exchangeOf text = bytes "grant_type=authorization_code&code=" ++ text
+
+unfoldable pub repeating : List ℕ → List ℕ
+repeating text = exchangeOf text ++ bytes "&redirect_uri=https%3A%2F%2Fclient%2Eexample%2Ecom%2Fcb"
+
+-- the same by the other client
+unfoldable pub byBarnapp : List ℕ → List ℕ
+byBarnapp text = repeating text ++ bytes "&client_id=barnapp"
 
 unfoldable pub tokenAt : List ℕ → List ℕ → ℕ → ℕ → Call
 tokenAt h b clock first = token h b (handedAt clock 40 first)
 
--- that exchange, "random 20 to 47 hex"
-unfoldable pub exchangeAt : ℕ → Call
-exchangeAt clock = tokenAt header body clock 0x20
+-- "random 00 to 13 hex", "random 20 to 47 hex"
+unfoldable pub codeText : List ℕ
+codeText = bytes "000102030405060708090a0b0c0d0e0f10111213"
 
--- the same without the redirect_uri, and by the other client
-pub withoutRedirect : List ℕ
-withoutRedirect = bytes "grant_type=authorization_code&code=000102030405060708090a0b0c0d0e0f10111213"
-
-pub byBarnapp : List ℕ
-byBarnapp =
-    bytes "grant_type=authorization_code&client_id=barnapp&code=000102030405060708090a0b0c0d0e0f10111213"
-    ++ bytes "&redirect_uri=https%3A%2F%2Fbarn%2Eexample%2Fr%3Fx%3D1"
-
--- a refresh with the token that the exchange gave, and what is asked
-pub refreshFor : List ℕ → List ℕ
-refreshFor scope = bytes "grant_type=refresh_token&refresh_token=3435363738393a3b3c3d3e3f4041424344454647" ++ scope
-
--- the access token and the refresh token of that exchange, shown at the check
-pub accessText : List ℕ
+unfoldable pub accessText : List ℕ
 accessText = bytes "202122232425262728292a2b2c2d2e2f30313233"
 
-pub refreshText : List ℕ
+unfoldable pub refreshText : List ℕ
 refreshText = bytes "3435363738393a3b3c3d3e3f4041424344454647"
 
--- a code is issued at 1000; then it is exchanged at 1500; or "A call at 1600" comes behind it
+-- "Exchange of that code .., its redirect_uri repeated"
+unfoldable pub exchangeAt : ℕ → Call
+exchangeAt clock = tokenAt header (repeating codeText) clock 0x20
+
+-- a refresh with a token, and what is asked
+unfoldable pub refreshFor : List ℕ → List ℕ → List ℕ
+refreshFor text scope = bytes "grant_type=refresh_token&refresh_token=" ++ text ++ scope
+
+-- a code is issued at 1000; or "A call at 1600" comes behind it
 unfoldable pub visit : List Call
 visit = authorizeAt 1000 0 ∷ []
-
-pub later : List Call
-later = authorizeAt 1000 0 ∷ exchangeAt 1500 ∷ []
 
 unfoldable pub night : List Call
 night = authorizeAt 1000 0 ∷ check (bytes "lost") 1600 ∷ []
 
+-- what a day's calls issue besides: to barnapp for farm 9 with no redirect_uri, by a refresh, and to the first client for less
+unfoldable pub barnQuery : List ℕ
+barnQuery = bytes "response_type=code&client_id=barnapp"
+
+unfoldable pub lessQuery : List ℕ
+lessQuery = rfcQuery ++ bytes "&scope=bill+peak"
+
+unfoldable pub barnText : List ℕ
+barnText = bytes "808182838485868788898a8b8c8d8e8f90919293"
+
+unfoldable pub againText : List ℕ
+againText = bytes "606162636465666768696a6b6c6d6e6f70717273"
+
+unfoldable pub lessText : List ℕ
+lessText = bytes "030405060708090a0b0c0d0e0f10111213141516"
+
+-- calls of every kind. Those refused with 1 to 4 have random bytes that came before, and the highest clock.
+unfoldable pub day : List Call
+day =
+    authorizeAt 1000 0
+    ∷ authorization rfcQuery 0 7 (handedAt 1001 20 1)  -- denied, with a redirect
+    ∷ authorization (bytes "client_id=nobody") 1 7 (handedAt 1002 20 2)  -- a page
+    ∷ authorization rfcQuery 1 7 (record { clock = 1003; random = countUp 20 0; output = replicate 1023 0 })  -- an output too short
+    ∷ tokenAt header (exchangeOf codeText) 1004 0x90  -- refused, and spends nothing
+    ∷ token header (repeating codeText) (record { clock = 1600; random = countUp 20 0; output = replicate 1024 0 })  -- half the random bytes
+    ∷ exchangeAt 1500
+    ∷ tokenAt header (refreshFor refreshText (bytes "&scope=power+pump")) 1501 0xB0  -- refused
+    ∷ tokenAt header (refreshFor refreshText (bytes "&scope=power+bill")) 1502 0x60
+    ∷ check accessText 1503
+    ∷ check (bytes "lost") 1504  -- not live
+    ∷ check accessText (2 ^ 40 + 1)  -- a clock too late
+    ∷ authorization barnQuery 1 9 (handedAt 1505 20 0x80)
+    ∷ authorization lessQuery 1 7 (handedAt 1506 20 3)
+    ∷ []
+
 -- ---- the cases
 
--- the call that is judged after some calls, and whether it yields or passes by the paper
+-- a call that is judged after some calls, and whether it yields or passes by the paper
 pub record Case : Type 0 where
-  pub calls : List Call
-  pub judged : Call
+  pub call : Call
   pub paper : Bool
 
-pub cases : List Case
+pub record Cases : Type 0 where
+  pub calls : List Call
+  pub judged : List Case
+
+abbrev yes : Call → Case
+yes c = record { call = c; paper = true }
+
+abbrev no : Call → Case
+no c = record { call = c; paper = false }
+
+-- a call at the token endpoint with random bytes of its own
+abbrev pub asking : List ℕ → List ℕ → ℕ → Call
+asking h b clock = tokenAt h b clock 0xC0
+
+unfoldable pub cases : List Cases
 cases =
-    record { calls = visit; judged = exchangeAt 1599; paper = true }  -- "The code is live at 1599"
-    ∷ record { calls = visit; judged = exchangeAt 1600; paper = false }  -- "not at 1600"
-    ∷ record { calls = night; judged = exchangeAt 1100; paper = false }  -- "A call at 1600, then exchange with clock 1100"
-    ∷ record { calls = later; judged = tokenAt header body 1510 0x60; paper = false }  -- it was exchanged
-    ∷ record { calls = visit; judged = tokenAt header withoutRedirect 1510 0x60; paper = false }  -- "the right one without its redirect"
-    ∷ record { calls = visit; judged = tokenAt [] byBarnapp 1510 0x60; paper = false }  -- "the wrong client"
-    ∷ record { calls = visit ++ tokenAt [] byBarnapp 1510 0x60 ∷ []; judged = exchangeAt 1520; paper = true }  -- whose try spent nothing
-    ∷ record { calls = later; judged = tokenAt header (refreshFor []) 1510 0x60; paper = true }  -- no scope is asked
-    ∷ record { calls = later; judged = tokenAt header (refreshFor (bytes "&scope=power+bill")) 1510 0x60; paper = true }  -- less is asked
-    ∷ record { calls = later; judged = tokenAt header (refreshFor (bytes "&scope=power+pump")) 1510 0x60; paper = false }  -- more is asked
-    ∷ record { calls = later; judged = tokenAt header (refreshFor []) 2593500 0x60; paper = false }  -- 1500 and 2,592,000
-    ∷ record { calls = later; judged = check accessText 5099; paper = true }
-    ∷ record { calls = later; judged = check accessText 5100; paper = false }  -- 1500 and 3,600
-    ∷ record { calls = later; judged = check refreshText 1510; paper = false }  -- a refresh token is no access token
+    record {
+      calls = visit;
+      judged =
+          yes (exchangeAt 1599)  -- "The code is live at 1599"
+          ∷ no (exchangeAt 1600)  -- "not at 1600"
+          ∷ no (asking header (exchangeOf codeText) 1510)  -- "the right one without its redirect"
+          ∷ no (asking [] (byBarnapp codeText) 1510)  -- "the wrong client"
+          ∷ no (check codeText 1510)  -- a code is no access token
+          ∷ [];
+    }
+    ∷ record { calls = night; judged = no (exchangeAt 1100) ∷ [] }  -- "A call at 1600, then exchange with clock 1100"
+    ∷ record {
+      calls = day;
+      judged =
+          no (asking header (repeating codeText) 1510)  -- it was exchanged
+          ∷ yes (asking header (repeating lessText) 2105)
+          ∷ no (asking header (repeating lessText) 2106)  -- 1506 and 600
+          ∷ no (asking header (exchangeOf lessText) 1510)
+          ∷ no (asking [] (byBarnapp lessText) 1510)
+          ∷ yes (asking [] (exchangeOf barnText ++ bytes "&client_id=barnapp") 1510)  -- no redirect was given, so none is repeated
+          ∷ yes (asking [] (repeating barnText ++ bytes "&client_id=barnapp") 1510)  -- nor read
+          ∷ no (asking header (exchangeOf lessText ++ bytes "&redirect_uri=https%3A%2F%2Fclient%2Eexample%2Ecom%2F") 1510)  -- another one
+          ∷ no (asking header (repeating accessText) 1510)  -- an access token is no code
+          ∷ yes (asking header (refreshFor refreshText []) 2593499)  -- no scope is asked
+          ∷ no (asking header (refreshFor refreshText []) 2593500)  -- 1500 and 2,592,000
+          ∷ yes (asking header (refreshFor refreshText (bytes "&scope=bill+peak")) 1510)  -- less is asked
+          ∷ no (asking header (refreshFor refreshText (bytes "&scope=power+pump")) 1510)  -- more is asked
+          ∷ no (asking header (refreshFor refreshText (bytes "&scope=power++bill")) 1510)  -- `power  bill` (two spaces) is bad
+          ∷ no (asking [] (refreshFor refreshText (bytes "&client_id=barnapp")) 1510)  -- the wrong client
+          ∷ no (asking header (refreshFor accessText []) 1510)  -- an access token is no refresh token
+          ∷ yes (check accessText 5099)
+          ∷ no (check accessText 5100)  -- 1500 and 3,600
+          ∷ yes (check againText 5101)
+          ∷ no (check refreshText 1510)  -- a refresh token is no access token
+          ∷ [];
+    }
     ∷ []
 
 -- what the server does
-pub yields : Answer → Bool
-yields (authorizationAnswer a) = isGranted (authorizationAnswer a)
-yields (tokenAnswer a) = isGranted (tokenAnswer a)
-yields (checkAnswer a) = isLiveAnswer (checkAnswer a)
+unfoldable pub yields : Call → Result → Bool
+yields (authorization query decision farm handed) r = r .granted
+yields (token h b handed) r = r .granted
+yields (check presented clock) r = r .passed
 
 -- what the claim asks of what the calls contain
-pub mayRequest : ℕ → List Issue → HandleText → Request → Bool
-mayRequest t standing p (Refused r) = false
-mayRequest t standing p (Code r) = false
-mayRequest t standing p (Exchange r) = mayExchange t standing p r
-mayRequest t standing p (Refresh r) = mayRefresh t standing p r
-
-pub may : Contents → Call → Bool
+unfoldable pub may : Contents → Call → Bool
 may c (authorization query decision farm handed) = false
 may c (token h b handed) =
-    let reading = readToken sampleClients h b in mayRequest (max (handed .clock) (c .highest)) (c .standing) (reading .presented) (reading .request)
-may c (check shown clock) = mayPass (max clock (c .highest)) (c .standing) (readHandle shown)
+    let t = max (handed .clock) (c .highest) in
+    cond (isExchange b) (mayExchange sampleClients t (c .standing) h b) (mayRefresh sampleClients t (c .standing) h b)
+may c (check presented clock) = mayPass (max clock (c .highest)) (c .standing) presented
+
+-- the call is one of those that the claim speaks of
+unfoldable pub isTyped : Call → Bool
+isTyped (authorization query decision farm handed) = ltb farm (2 ^ 32) && every (λ b. ltb b 256) (handed .random)
+isTyped (token h b handed) = every (λ b. ltb b 256) (handed .random)
+isTyped (check presented clock) = true
+
+unfoldable pub isAsked : Call → Bool
+isAsked (authorization query decision farm handed) = false
+isAsked (token h b handed) = isAdmitted (readToken sampleClients h b .request) && (isExchange b || isRefresh b)
+isAsked (check presented clock) = true
+
+unfoldable pub isJudged : Contents → Call → Bool
+isJudged c k = isTyped k && (isFitting k && distinct (twenties k ++ c .randoms))
 
 -- what calls contain, over the sample clients
-unfoldable pub containedIn : List Call → Contents
-containedIn cs = withEvents sampleClients nothingYet (eventsOn sampleClients fresh cs)
+unfoldable pub leftIn : List Call → Store
+leftIn cs = leftByAll sampleClients fresh (keep isFitting cs)
 
-pub agrees : Case → Bool
-agrees k =
-    Bool·beq (yields (answerOn sampleClients (leftByAll sampleClients fresh (k .calls)) (k .judged))) (k .paper)
-    && Bool·beq (may (containedIn (k .calls)) (k .judged)) (k .paper)
+unfoldable pub containedIn : List Call → Contents
+containedIn cs = withEvents sampleClients nothingYet (eventsOn sampleClients fresh (keep isFitting cs))
+
+unfoldable pub claimAgrees : Contents → Case → Bool
+claimAgrees c k = isAsked (k .call) && (isJudged c (k .call) && Bool·beq (may c (k .call)) (k .paper))
+
+unfoldable pub agreesOn : Store → Contents → Case → Bool
+agreesOn g c k = claimAgrees c k && Bool·beq (yields (k .call) (resultOn sampleClients g (k .call))) (k .paper)
+
+unfoldable pub agrees : Cases → Bool
+agrees l = every (agreesOn (leftIn (l .calls)) (containedIn (l .calls))) (l .judged) && every isTyped (l .calls)
 
 -- ---- what some calls contain
 
--- what `authorizeAt` asks for, and the code that it issues at the time t
-unfoldable pub asksCode : CodeRequest
-asksCode = record { client = 0; farm = 7; scope = 11; bound = true }
+-- the redirect address that was given
+unfoldable pub redirect : Value
+redirect = once (bytes "https://client.example.com/cb")
 
-unfoldable pub codeAt : ℕ → ℕ → Issue
-codeAt t first = codeIssue t (countUp 20 first) asksCode
+-- what the first client gets for farm 7: a code, which is bound, or a token
+unfoldable pub codeUntil : List ℕ → ℕ → ℕ → Issue
+codeUntil text scope expiry =
+    record { sort = code; text = text; client = 0; farm = 7; scope = scope; address = redirect; expiry = expiry }
 
-pub contain : List Contents
-contain =
-    containedIn later
-    ∷ containedIn (night ++ exchangeAt 1100 ∷ authorizeAt 1100 100 ∷ [])  -- "A code issued next with clock 1100 expires at 2200."
-    ∷ containedIn (authorizeAt 1000 0 ∷ authorizeAt 1000 100 ∷ [])  -- "Identical requests are never merged: two grants, two codes."
+unfoldable pub tokenUntil : Sort → List ℕ → ℕ → ℕ → Issue
+tokenUntil sort text scope expiry =
+    record { sort = sort; text = text; client = 0; farm = 7; scope = scope; address = missing; expiry = expiry }
+
+unfoldable pub barnCode : Issue
+barnCode = record { sort = code; text = barnText; client = 1; farm = 9; scope = 1; address = missing; expiry = 2105 }
+
+unfoldable pub inVisit : Contents
+inVisit = record { highest = 1000; standing = codeUntil codeText 11 1600 ∷ []; randoms = countUp 20 0 ∷ [] }
+
+unfoldable pub inDay : Contents
+inDay = record {
+  highest = 1506;
+  standing =
+      codeUntil lessText 10 2106
+      ∷ barnCode
+      ∷ tokenUntil access againText 9 5102
+      ∷ tokenUntil refresh refreshText 11 2593500
+      ∷ tokenUntil access accessText 11 5100
+      ∷ [];
+  randoms =
+      countUp 20 3
+      ∷ countUp 20 0x80
+      ∷ countUp 20 0x60
+      ∷ countUp 20 0x74
+      ∷ countUp 20 0xB0
+      ∷ countUp 20 0xC4
+      ∷ countUp 20 0x20
+      ∷ countUp 20 0x34
+      ∷ countUp 20 0x90
+      ∷ countUp 20 0xA4
+      ∷ countUp 20 2
+      ∷ countUp 20 1
+      ∷ countUp 20 0
+      ∷ [];
+}
+
+-- barnapp exchanges its code
+unfoldable pub barnBody : List ℕ
+barnBody = exchangeOf barnText ++ bytes "&client_id=barnapp"
+
+-- behind that, barnapp's tokens stand
+unfoldable pub evening : List Call
+evening = day ++ asking [] barnBody 1510 ∷ []
+
+unfoldable pub barnToken : Sort → List ℕ → ℕ → Issue
+barnToken sort text expiry =
+    record { sort = sort; text = text; client = 1; farm = 9; scope = 1; address = missing; expiry = expiry }
+
+unfoldable pub barnAccess : List ℕ
+barnAccess = bytes "c0c1c2c3c4c5c6c7c8c9cacbcccdcecfd0d1d2d3"
+
+unfoldable pub inEvening : Contents
+inEvening = record {
+  highest = 1510;
+  standing =
+      barnToken refresh (bytes "d4d5d6d7d8d9dadbdcdddedfe0e1e2e3e4e5e6e7") 2593510
+      ∷ barnToken access barnAccess 5110
+      ∷ codeUntil lessText 10 2106
+      ∷ tokenUntil access againText 9 5102
+      ∷ tokenUntil refresh refreshText 11 2593500
+      ∷ tokenUntil access accessText 11 5100
+      ∷ [];
+  randoms = countUp 20 0xC0 ∷ countUp 20 0xD4 ∷ inDay .randoms;
+}
+
+-- ---- room: so many live access tokens stand beside the code or refresh token
+
+unfoldable pub beside : ℕ → Issue → List Issue
+beside n e = e ∷ replicate n (tokenUntil access accessText 11 4600)
+
+unfoldable pub mayBeside : ℕ → List Bool
+mayBeside n =
+    mayExchange sampleClients 1001 (beside n (codeUntil codeText 11 1600)) header (repeating codeText)
+    ∷ mayRefresh sampleClients 1001 (beside n (tokenUntil refresh refreshText 11 2593000)) header (refreshFor refreshText [])
     ∷ []
 
--- ---- the server's words
+-- the same by the 512 slots of a store
+unfoldable pub slotUntil : ℕ → List ℕ → ℕ → Slot
+slotUntil kind handle expiry = record { kind = kind; handle = handle; client = 0; farm = 7; scope = 11; expiry = expiry }
 
-unfoldable pub wordIn : Answer → Decision
-wordIn (authorizationAnswer a) = a .decision
-wordIn (tokenAnswer a) = a .decision
-wordIn (checkAnswer a) = Grant
+unfoldable pub decidedBeside : ℕ → Slot → List ℕ → Decision
+decidedBeside n s b =
+    let slots = s ∷ replicate n (slotUntil kindAccess (replicate 20 9) 4600) ++ replicate (511 - n) freeSlot in
+    decisionOn (planOf 1001 slots (countUp 40 0x60) (readToken sampleClients header b))
 
-unfoldable pub wordOn : List Call → Call → Decision
-wordOn cs c = wordIn (answerOn sampleClients (leftByAll sampleClients fresh cs) c)
-
--- ---- room: so many live access tokens stand beside the code
-
-unfoldable pub presented : HandleText
-presented = readHandle (bytes "000102030405060708090a0b0c0d0e0f10111213")
-
--- its exchange
-unfoldable pub asksTokens : ExchangeRequest
-asksTokens = record { client = 0; again = true }
-
-pub beside : ℕ → List Issue
-beside n = codeAt 1000 0 ∷ replicate n (tokenIssue access 1000 (replicate 20 9) (codeAt 1000 0) 11)
-
--- the same by the slots of a store, with so many free
-pub slotsBeside : ℕ → List Slot
-slotsBeside n =
-    let s = newCode 1000 (countUp 20 0) asksCode in
-    s ∷ replicate 510 (tokenOn s 1000 kindAccess (replicate 20 9) 11) ++ replicate n freeSlot
-
-pub beforeTokens : List Slot → Decision
-beforeTokens slots = decisionOn (exchangePlan 1001 slots (countUp 40 0x20) presented asksTokens)
+unfoldable pub doneBeside : ℕ → List Decision
+doneBeside n =
+    decidedBeside n (slotUntil kindBoundCode (countUp 20 0) 1600) (repeating codeText)
+    ∷ decidedBeside n (slotUntil kindRefresh (countUp 20 0x34) 2593000) (refreshFor refreshText [])
+    ∷ []
 
 -- ---- all that, computed
 
 pub record Computed : Type 0 where
   pub cases-agree : every agrees cases ≡ true
-  pub visit-contains : containedIn visit ≡ record { highest = 1000; standing = codeAt 1000 0 ∷ []; randoms = countUp 20 0 ∷ [] }
-  pub calls-contain : contain
+  pub visit-contains : containedIn visit ≡ inVisit
+  -- "A code issued next with clock 1100 expires at 2200."
+  pub night-contains : containedIn (night ++ exchangeAt 1100 ∷ authorizeAt 1100 3 ∷ [])
       ≡ record {
-        highest = 1500;
-        standing =
-            tokenIssue refresh 1500 (countUp 20 0x34) (codeAt 1000 0) 11
-            ∷ tokenIssue access 1500 (countUp 20 0x20) (codeAt 1000 0) 11
-            ∷ [];
-        randoms = countUp 20 0x20 ∷ countUp 20 0x34 ∷ countUp 20 0 ∷ [];
-      }
-      ∷ record {
         highest = 1600;
-        standing = codeAt 1600 100 ∷ codeAt 1000 0 ∷ [];
-        randoms = countUp 20 100 ∷ countUp 20 0x20 ∷ countUp 20 0x34 ∷ countUp 20 0 ∷ [];
+        standing = codeUntil lessText 11 2200 ∷ codeUntil codeText 11 1600 ∷ [];
+        randoms = countUp 20 3 ∷ countUp 20 0x20 ∷ countUp 20 0x34 ∷ countUp 20 0 ∷ [];
       }
-      ∷ record { highest = 1000; standing = codeAt 1000 100 ∷ codeAt 1000 0 ∷ []; randoms = countUp 20 100 ∷ countUp 20 0 ∷ [] }
-      ∷ []
-  pub expires : codeAt 1600 100 .expiry ≡ 2200
-  pub in-time : wordOn visit (exchangeAt 1599) ≡ Grant
-  pub too-late : wordOn visit (exchangeAt 1600) ≡ Refuse (Token InvalidGrant)
-  pub in-the-night : wordOn night (exchangeAt 1100) ≡ Refuse (Token InvalidGrant)
-  pub wider : wordOn later (tokenAt header (refreshFor (bytes "&scope=power+pump")) 1510 0x60) ≡ Refuse (Token InvalidScope)
-  pub named : answerOn sampleClients (leftByAll sampleClients fresh later) (check accessText 1510)
-      ≡ checkAnswer (Live (record { client = 0; farm = 7; scope = 11; left = 3590 }))
-  pub may-1599 : mayExchange 1599 (codeAt 1000 0 ∷ []) presented asksTokens ≡ true
-  pub not-1600 : mayExchange 1600 (codeAt 1000 0 ∷ []) presented asksTokens ≡ false
-  pub room-asked : mayExchange 1001 (beside 510) presented asksTokens ∷ mayExchange 1001 (beside 511) presented asksTokens ∷ []
-      ≡ true ∷ false ∷ []
-  pub room-found : beforeTokens (slotsBeside 1) ∷ beforeTokens (slotsBeside 0) ∷ [] ≡ Grant ∷ Refuse (Failed NoRoom) ∷ []
-  -- what the exchange is read as, and the random bytes of it and of the visit
-  pub read : readToken sampleClients header body ≡ record { request = Exchange asksTokens; presented = presented }
-  pub randoms : distinct (twenties (exchangeAt 0) ++ containedIn visit .randoms) ≡ true
+  -- "Identical requests are never merged: two grants, two codes."
+  pub twice-contain : containedIn (authorizeAt 1000 0 ∷ authorizeAt 1000 3 ∷ [])
+      ≡ record {
+        highest = 1000;
+        standing = codeUntil lessText 11 1600 ∷ codeUntil codeText 11 1600 ∷ [];
+        randoms = countUp 20 3 ∷ countUp 20 0 ∷ [];
+      }
+  pub day-contains : containedIn day ≡ inDay
+  pub evening-contains : containedIn evening ≡ inEvening
+  pub visit-typed : every isTyped visit ≡ true
+  pub day-typed : every isTyped day ≡ true
+  pub evening-typed : every isTyped evening ≡ true
+  -- why the claim asks that random bytes never come twice: an exchange in time that brings those of its code gets 500
+  pub clash : let again = tokenAt header (repeating codeText) 1510 0 in
+      may inVisit again ∷ yields again (resultOn sampleClients (leftIn visit) again) ∷ isJudged inVisit again ∷ [] ≡ true ∷ false ∷ false ∷ []
+  -- the day leaves room for one more code
+  pub code-granted : resultOn sampleClients (leftIn day) (authorizeAt 1510 0xC0) .granted ≡ true
+  pub barn-granted : resultOn sampleClients (leftIn day) (authorization barnQuery 1 9 (handedAt 1510 20 0xC0)) .granted ≡ true
+  -- the first client's code, bound, for farm 7, scopes 10 and until 2106, in the bytes that the day leaves
+  pub code-kept : part (encodeStore (leftIn day)) (8 + 4 * 35) 35
+      ≡ 2 ∷ countUp 20 3 ++ 0 ∷ 0 ∷ 0 ∷ 0 ∷ 7 ∷ 10 ∷ 0 ∷ 0 ∷ 0 ∷ 0 ∷ 0 ∷ 0 ∷ 8 ∷ 58 ∷ []
+  -- 510, and two or one more, are 512
+  pub room-asked : mayBeside 510 ++ mayBeside 511 ≡ true ∷ true ∷ false ∷ false ∷ []
+  pub room-found : doneBeside 510 ++ doneBeside 511 ≡ Grant ∷ Grant ∷ Refuse (Failed NoRoom) ∷ Refuse (Failed NoRoom) ∷ []
 
 pub computed : Computed
-unfolding slotsBeside beforeTokens agrees cases yields mayRequest may contain wordIn wordOn presented beside containedIn asksCode asksTokens codeAt countUp rfcQuery handedAt authorizeAt header body tokenAt exchangeAt withoutRedirect byBarnapp refreshFor accessText refreshText visit later night handedTo asked outcomeOn leftByAll eventsOn withEvents withEvent isUnfit isUnfitDecision isUnfitRefusal isUnfitCheck isGranted afterGrant issuedBy isEndedBy noIssue isWithinGranted askedOr mayExchange mayRefresh mayPass isLiveCheck isLiveAnswer twenties distinct keep count any firstOr replaceFirst freeSlot fresh every same indexOf splitOn grow hexValue readHandle isHandleText unhex isBase64 base64Bytes groupBytes soundGroup sextet none decodeAfter firstByte extra isEscape plain wellFormed sound isWellFormedForm pieceName pieceValue gives add valueIn formValue names bitFrom bitOf union readScope indexWhere sampleClients sampleConfidential samplePublic isGrant isMissing isRepeated onlyValue isOnce askedBy scopeAsked fits scopeGiven isBadQuery queryClient isBadClient isBadRedirect isSoundState isBadState isInvalidRequest isOtherType isInvalidScope codeAsked pageReasons redirectReasons readAuthorization isInvalidForm lowerCase sameAnyCase credentials isBadHeader headerId headerSecret presentedId presentedSecret isUnclearId isImpostor callClient isInvalidClient formReasons readExchange readRefresh readGrant readToken firstOf unlessRefused refusedPlan codePlan exchangePlan refreshPlan planFor slotsBy checkSlots serveAuthorization serveToken serveCheck
+unfolding encodeStore encodeSlot concat bigEndianBytes redirect codeUntil tokenUntil barnCode inVisit inDay barnBody evening barnToken barnAccess inEvening beside mayBeside slotUntil decidedBeside doneBeside yields may isTyped isAsked isJudged leftIn containedIn claimAgrees agreesOn agrees cases day visit night handedAt authorizeAt header exchangeOf repeating byBarnapp tokenAt codeText accessText refreshText exchangeAt refreshFor barnQuery lessQuery barnText againText lessText rfcQuery handedTo asked outcomeOn unfitTo leftByAll eventsOn isFitting isUnfitRefusal isUnfitDecision isUnfitCheck isUnfit isGranted lengthOf isLiveCheck namedBy isPassed namedIn noIssue noneBeyond isWithinGranted namesOr askedOr codeIssue exchangeIssues refreshIssues issuedBy isEndedBy standingAfter withEvent withEvents twenties idIn isAdmitted isRepeatedBy mayExchange mayRefresh mayPass distinct keep count any firstOr replaceFirst freeSlot fresh every same indexOf splitOn grow hexText hexDigit hexValue readHandle isHandleText unhex isBase64 base64Bytes groupBytes soundGroup sextet none decodeAfter firstByte extra isEscape plain wellFormed sound encode encodeByte isWellFormedForm pieceName pieceValue gives add valueIn formValue names bitFrom bitOf union readScope chosen spaced scopeText indexWhere sampleClients sampleConfidential samplePublic isGrant wordText isMissing isRepeated onlyValue isOnce askedBy scopeAsked fits scopeGiven isBadQuery queryClient isBadClient isBadRedirect isSoundState isBadState isInvalidRequest isOtherType isInvalidScope codeAsked pageReasons redirectReasons readAuthorization separator stateText location codeParameter errorParameter locationText isInvalidForm lowerCase sameAnyCase credentials isBadHeader headerId headerSecret presentedId presentedSecret isUnclearId isImpostor callClient isInvalidClient formReasons readExchange readRefresh readGrant readToken errorReply refusalReply tokenReply refreshMember firstOf unlessRefused refusedPlan codePlan exchangePlan refreshPlan planFor slotsBy checkSlots serveAuthorization replyText serveToken serveCheck
 computed = record {
   cases-agree = refl;
   visit-contains = refl;
-  calls-contain = refl;
-  expires = refl;
-  in-time = refl;
-  too-late = refl;
-  in-the-night = refl;
-  wider = refl;
-  named = refl;
-  may-1599 = refl;
-  not-1600 = refl;
+  night-contains = refl;
+  twice-contain = refl;
+  day-contains = refl;
+  evening-contains = refl;
+  visit-typed = refl;
+  day-typed = refl;
+  evening-typed = refl;
+  clash = refl;
+  code-granted = refl;
+  barn-granted = refl;
+  code-kept = refl;
   room-asked = refl;
   room-found = refl;
-  read = refl;
-  randoms = refl;
 }

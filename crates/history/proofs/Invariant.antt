@@ -7,7 +7,7 @@
 -- In order: the invariant; what keeps it (time, more random bytes, an issue, what is withdrawn), and the room that is left; what it
 -- says of a look-up by a handle that came once.
 -- Assumes nothing.
-use mathlib.Core.Path.{_≡_, refl, sym, ap, _∙_, fun-ext}
+use mathlib.Core.Path.{_≡_, refl, sym, _∙_}
 use mathlib.Core.Bool.{Bool, true, false, not, _&&_, and-assoc, and-true, and-false}
 use mathlib.Core.List.{List, [], _∷_, List·Memᴰ}
 use Prim.Native.Nat.{ℕ, _+_, _≤_}
@@ -24,18 +24,22 @@ use Rattle.token_store.specs.Store.{issue, isUsed, isLive, isVacant, holds, sou
 use Rattle.token_store.specs.declared.Slot.{Slot}
 use Rattle.token_store.proofs.Slots.{key-holds}
 use Rattle.protocol.specs.Granting.{shownSlot, room}
-use Rattle.history.specs.Contents.{Sort, Issue, isA, isLiveAt, isOf, noIssue, originOf, NeverTwice}
+use Rattle.history.specs.Contents.{Sort, NeverTwice}
 use Rattle.octets.proofs.Counting.{bit-some, bit-implies, count-ext, count-le, count-and, count-not, count-replicate, count-member, count-keep, any-count, any-some, firstOr-passes, count-firstOr, length-replaceFirst, count-replaceFirst, length-replaceAll, count-replaceAll, replaceFirst-replaceAll}
-use Rattle.history.proofs.HeldIssues.{held, sought, held-live, held-key, tests-tell}
+use Rattle.history.proofs.HeldIssues.{Held, asSlot, sought, noneHeld, used, tests-tell}
+
+-- the thing issued that is presented, among those that stand
+abbrev pub originHeld : Sort → HandleText → List Held → Held
+originHeld sort p standing = firstOr noneHeld (λ e. soughtKey (sought sort) p (asSlot e)) standing
 
 -- the slots at the time t, the issues that stand, and the random bytes of the calls seen
-pub record Invariant (t : ℕ) (slots : List Slot) (standing : List Issue) (seen : List (List ℕ)) : Type 0 where
+pub record Invariant (t : ℕ) (slots : List Slot) (standing : List Held) (seen : List (List ℕ)) : Type 0 where
   pub size : length slots ≡ slotCount
   -- the live slots and the live issues are one bag
-  pub bag : (p : Slot → Bool) → count (λ s. isLive t s && p s) slots ≡ count (λ e. isLiveAt t e && p (held e)) standing
+  pub bag : (p : Slot → Bool) → count (λ s. isLive t s && p s) slots ≡ count (λ e. isLive t (asSlot e) && p (asSlot e)) standing
   -- a handle is in no more slots, and in no more issues, than it came by calls
   pub inSlots : (h : List ℕ) → count (holds h) slots ≤ count (same h) seen
-  pub inIssues : (h : List ℕ) → count (λ e. holds h (held e)) standing ≤ count (same h) seen
+  pub inIssues : (h : List ℕ) → count (λ e. holds h (asSlot e)) standing ≤ count (same h) seen
 
 pub invariant-fresh : Invariant 0 (replicate slotCount freeSlot) [] []
 unfolding count freeSlot
@@ -54,7 +58,7 @@ live-later t u x c h = by (ltb u x) refl
     by true e = rw (lt-ltb t x (omega (arith, ltb-true u x e)))
     by false e = sym (and-false (ltb t x))
 
-module _ {t : ℕ} {slots : List Slot} {standing : List Issue} {seen : List (List ℕ)} (v : Invariant t slots standing seen) where
+module _ {t : ℕ} {slots : List Slot} {standing : List Held} {seen : List (List ℕ)} (v : Invariant t slots standing seen) where
   -- ---- time goes on
 
   pub invariant-later : (u : ℕ) → t ≤ u → Invariant u slots standing seen
@@ -63,8 +67,8 @@ module _ {t : ℕ} {slots : List Slot} {standing : List Issue} {seen : List (Lis
     bag = λ p.
         count-ext (λ s. isLive u s && p s) (λ s. isLive t s && (isLive u s && p s)) slots (λ s. by (isUsed s) (s .expiry) (p s))
         ∙ v .bag (λ s. isLive u s && p s)
-        ∙ count-ext (λ e. isLiveAt t e && (isLive u (held e) && p (held e))) (λ e. isLiveAt u e && p (held e)) standing
-        (λ e. rw (held-live u e) (sym (live-later t u (e .expiry) (p (held e)) h)));
+        ∙ count-ext (λ e. isLive t (asSlot e) && (isLive u (asSlot e) && p (asSlot e))) (λ e. isLive u (asSlot e) && p (asSlot e)) standing
+        (λ e. sym (by (isUsed (asSlot e)) (e .expiry) (p (asSlot e))));
     inSlots = v .inSlots;
     inIssues = v .inIssues;
   }
@@ -85,11 +89,11 @@ module _ {t : ℕ} {slots : List Slot} {standing : List Issue} {seen : List (Lis
 
   -- ---- one issue more, in a vacant slot
 
-  pub invariant-issue : (x : Issue) → 1 ≤ room t slots → Invariant t (issue t (held x) slots) (x ∷ standing) (x .handle ∷ seen)
+  pub invariant-issue : (x : Held) → 1 ≤ room t slots → Invariant t (issue t (asSlot x) slots) (x ∷ standing) (x .handle .octets ∷ seen)
   unfolding count
   invariant-issue x h = record {
-    size = length-replaceFirst (isVacant t) (held x) slots ∙ v .size;
-    bag = λ p. omega (arith, put (λ s. isLive t s && p s), gone p, v .bag p, ap (λ (b : Bool). bit (b && p (held x))) (held-live t x));
+    size = length-replaceFirst (isVacant t) (asSlot x) slots ∙ v .size;
+    bag = λ p. omega (arith, put (λ s. isLive t s && p s), gone p, v .bag p);
     inSlots = λ k. omega (arith, put (holds k), new k, v .inSlots k);
     inIssues = λ k. omega (arith, new k, v .inIssues k);
   }
@@ -100,35 +104,35 @@ module _ {t : ℕ} {slots : List Slot} {standing : List Issue} {seen : List (Lis
       some : any (isVacant t) slots ≡ true
       some = any-some (isVacant t) slots h
 
-      put : (q : Slot → Bool) → count q (issue t (held x) slots) + bit (q old) ≡ count q slots + bit (q (held x))
-      put q = rw some at (count-replaceFirst q (isVacant t) (held x) freeSlot slots)
+      put : (q : Slot → Bool) → count q (issue t (asSlot x) slots) + bit (q old) ≡ count q slots + bit (q (asSlot x))
+      put q = rw some at (count-replaceFirst q (isVacant t) (asSlot x) freeSlot slots)
 
       gone : (p : Slot → Bool) → bit (isLive t old && p old) ≡ 0
       gone p = rw (not-true (isLive t old) (firstOr-passes (isVacant t) freeSlot slots some))
 
-      new : (k : List ℕ) → bit (holds k (held x)) ≤ bit (same k (x .handle))
-      new k = bit-implies (holds k (held x)) (same k (x .handle)) (and-right (isUsed (held x)) (same k (x .handle)))
+      new : (k : List ℕ) → bit (holds k (asSlot x)) ≤ bit (same k (x .handle .octets))
+      new k = bit-implies (holds k (asSlot x)) (same k (x .handle .octets)) (and-right (isUsed (asSlot x)) (same k (x .handle .octets)))
 
   -- ---- those that pass k are withdrawn
 
-  invariant-withdraw : (k : Slot → Bool) → Invariant t (replaceAll freeSlot k slots) (keep (λ e. not (k (held e))) standing) seen
+  invariant-withdraw : (k : Slot → Bool) → Invariant t (replaceAll freeSlot k slots) (keep (λ e. not (k (asSlot e))) standing) seen
   unfolding freeSlot
   invariant-withdraw k = record {
     size = length-replaceAll freeSlot k slots ∙ v .size;
     bag = λ p.
-        let left : Issue → Bool = λ e. not (k (held e)) in
-        rw (count-replaceAll (λ s. isLive t s && p s) k freeSlot slots refl, count-keep (λ e. isLiveAt t e && p (held e)) left standing)
+        let left : Held → Bool = λ e. not (k (asSlot e)) in
+        rw (count-replaceAll (λ s. isLive t s && p s) k freeSlot slots refl, count-keep (λ e. isLive t (asSlot e) && p (asSlot e)) left standing)
         (simp and-assoc (simp and-assoc at (v .bag (λ s. p s && not (k s)))));
     inSlots = λ h. omega (arith, count-replaceAll (holds h) k freeSlot slots refl, count-and (holds h) (λ s. not (k s)) slots, v .inSlots h);
     inIssues = λ h.
-        let here : Issue → Bool = λ e. holds h (held e) in
-        let left : Issue → Bool = λ e. not (k (held e)) in
+        let here : Held → Bool = λ e. holds h (asSlot e) in
+        let left : Held → Bool = λ e. not (k (asSlot e)) in
         omega (arith, count-keep here left standing, count-and here left standing, v .inIssues h);
   }
 
   -- ---- the room that is left
 
-  pub room-left : room t slots + count (isLiveAt t) standing ≡ slotCount
+  pub room-left : room t slots + count (λ e. isLive t (asSlot e)) standing ≡ slotCount
   room-left = omega (arith, count-not (isLive t) slots, v .size, simp and-true at (v .bag (λ s. true)))
 
   -- ---- a look-up, where no random bytes came twice
@@ -146,59 +150,55 @@ module _ {t : ℕ} {slots : List Slot} {standing : List Issue} {seen : List (Lis
     one-slot : count key slots ≤ 1
     one-slot = omega (arith, count-le key (holds (p .bytes)) slots taken, v .inSlots (p .bytes), once (p .bytes))
 
-    one-issue : count (λ e. key (held e)) standing ≤ 1
+    one-issue : count (λ e. key (asSlot e)) standing ≤ 1
     one-issue =
         omega (
           arith,
-          count-le (λ e. key (held e)) (λ e. holds (p .bytes) (held e)) standing (λ e. taken (held e)),
+          count-le (λ e. key (asSlot e)) (λ e. holds (p .bytes) (asSlot e)) standing (λ e. taken (asSlot e)),
           v .inIssues (p .bytes),
           once (p .bytes),
         )
 
     -- the live issues that it takes are counted by the slot that it finds
-    counted : (g : Slot → Bool) → count (λ e. isLiveAt t e && (key (held e) && g (held e))) standing ≡ bit (isLive t slot && g slot)
+    counted : (g : Slot → Bool) → count (λ e. isLive t (asSlot e) && (key (asSlot e) && g (asSlot e))) standing ≡ bit (isLive t slot && g slot)
     unfolding freeSlot
     counted g =
         sym (v .bag (λ s. key s && g s))
         ∙ count-ext (λ s. isLive t s && (key s && g s)) (λ s. key s && (isLive t s && g s)) slots (λ s. and-swap (isLive t s) (key s) (g s))
         ∙ count-firstOr key (λ s. isLive t s && g s) freeSlot slots one-slot refl
 
-    -- the calls contain a live issue of this handle with g exactly when the slot found is live and has g
-    pub contained : (g : Slot → Bool) (r : Issue → Bool) → ((e : Issue) → (isLiveAt t e && (key (held e) && g (held e))) ≡ r e)
-        → any r standing ≡ (isLive t slot && g slot)
-    contained g r agree =
-        any-count r (isLive t slot && g slot) standing
-        (sym (count-ext (λ e. isLiveAt t e && (key (held e) && g (held e))) r standing agree) ∙ counted g)
+    -- something live of this handle with g stands exactly when the slot found is live and has g
+    pub contained : (g : Slot → Bool) → any (λ e. isLive t (asSlot e) && (key (asSlot e) && g (asSlot e))) standing ≡ (isLive t slot && g slot)
+    contained g = any-count (λ e. isLive t (asSlot e) && (key (asSlot e) && g (asSlot e))) (isLive t slot && g slot) standing (counted g)
 
-    passes : (g : Slot → Bool) → 1 ≤ count (λ e. isLiveAt t e && (key (held e) && g (held e))) standing → g slot ≡ true
+    passes : (g : Slot → Bool) → 1 ≤ count (λ e. isLive t (asSlot e) && (key (asSlot e) && g (asSlot e))) standing → g slot ≡ true
     passes g h = and-right (isLive t slot) (g slot) (bit-some (isLive t slot && g slot) (omega (arith, counted g)))
 
     -- a live issue of this handle is what the slot found holds
-    pub found : (e : Issue) → List·Memᴰ e standing → isLiveAt t e ≡ true → (isA sort e && isOf p e) ≡ true → slot ≡ held e
+    pub found : (e : Held) → List·Memᴰ e standing → isLive t (asSlot e) ≡ true → key (asSlot e) ≡ true → slot ≡ asSlot e
     found e m live here =
-        sym (tests-tell (held e) slot
-        (λ g h. passes g (count-member (λ x. isLiveAt t x && (key (held x) && g (held x))) e m (rw (live, held-key p sort e ∙ here) h))))
+        sym (tests-tell (asSlot e) slot
+        (λ g h. passes g (count-member (λ x. isLive t (asSlot x) && (key (asSlot x) && g (asSlot x))) e m (rw (live, here) h))))
 
     -- where the slot found is live, it holds the issue found
-    pub origin : isLive t slot ≡ true → held (originOf sort p standing) ≡ slot
-    unfolding noIssue
-    origin live = rw (← (fun-ext (held-key p sort))) (sym (tests-tell slot (held o) shown))
+    pub origin : isLive t slot ≡ true → asSlot (originHeld sort p standing) ≡ slot
+    unfolding noneHeld
+    origin live = sym (tests-tell slot (asSlot o) shown)
       where
-        o : Issue
-        o = firstOr noIssue (λ e. key (held e)) standing
+        o : Held
+        o = firstOr noneHeld (λ e. key (asSlot e)) standing
 
-        tested : (g : Slot → Bool) → count (λ e. isLiveAt t e && (key (held e) && g (held e))) standing ≡ bit (isLiveAt t o && g (held o))
+        tested : (g : Slot → Bool) → count (λ e. isLive t (asSlot e) && (key (asSlot e) && g (asSlot e))) standing ≡ bit (isLive t (asSlot o) && g (asSlot o))
         tested g =
-            count-ext (λ e. isLiveAt t e && (key (held e) && g (held e))) (λ e. key (held e) && (isLiveAt t e && g (held e))) standing
-            (λ e. and-swap (isLiveAt t e) (key (held e)) (g (held e)))
-            ∙ count-firstOr (λ e. key (held e)) (λ e. isLiveAt t e && g (held e)) noIssue standing one-issue (rw (le-ltb t 0 (omega arith)))
+            count-ext (λ e. isLive t (asSlot e) && (key (asSlot e) && g (asSlot e))) (λ e. key (asSlot e) && (isLive t (asSlot e) && g (asSlot e))) standing
+            (λ e. and-swap (isLive t (asSlot e)) (key (asSlot e)) (g (asSlot e)))
+            ∙ count-firstOr (λ e. key (asSlot e)) (λ e. isLive t (asSlot e) && g (asSlot e)) noneHeld standing one-issue (rw (le-ltb t 0 (omega arith)))
 
-        shown : (g : Slot → Bool) → g slot ≡ true → g (held o) ≡ true
+        shown : (g : Slot → Bool) → g slot ≡ true → g (asSlot o) ≡ true
         shown g h =
             let one : bit (isLive t slot && g slot) ≡ 1 = rw (live, h) in
-            and-right (isLiveAt t o) (g (held o)) (bit-some (isLiveAt t o && g (held o)) (omega (arith, tested g, counted g)))
+            and-right (isLive t (asSlot o)) (g (asSlot o)) (bit-some (isLive t (asSlot o) && g (asSlot o)) (omega (arith, tested g, counted g)))
 
     -- the one slot that it finds is cleared
-    pub withdrawn : Invariant t (replaceFirst key freeSlot slots) (keep (λ e. not (isA sort e && isOf p e)) standing) seen
-    withdrawn =
-        rw (replaceFirst-replaceAll freeSlot key slots one-slot, ← (fun-ext (λ e. ap not (held-key p sort e)))) (invariant-withdraw key)
+    pub withdrawn : Invariant t (replaceFirst key freeSlot slots) (keep (λ e. not (key (asSlot e))) standing) seen
+    withdrawn = rw (replaceFirst-replaceAll freeSlot key slots one-slot) (invariant-withdraw key)

@@ -1,19 +1,27 @@
 -- Demand 3, proved: the theorem is `demand3` in Theorem. Demand 1, proved: the theorem is `demand1` in AnyStore.
 --
--- Read Theorem first, then down: AllCalls (every list of calls), AnyCall (one call on bytes), OneRequest (one request on slots),
--- Invariant (the idea, over the slots of HeldIssues). Readings and SoundStores: what is read fits a slot, so that the store stays fit.
--- Meaning says what it is to stand; Examples and Visit show that the claim is not empty, by CallsOnRecords.
+-- Read Theorem first, then down: AllCalls (every list of calls), Shown (what the claim reads from a call is what it issued), AnyCall
+-- (one call on bytes), OneRequest (one request on slots), Invariant (the idea, over the slots of HeldIssues). Readings, SoundStores and
+-- Written: what is read fits a slot, so that the store stays fit, and what is written fits the output. Asking
+-- says who calls and what is asked. Meaning says what it is to stand; Examples and Visit show that the claim is not empty, by
+-- CallsOnRecords; UselessServers that it shuts out other servers, by ServersOnRecords. Sample: what holds of the sample registry.
 pub mod HeldIssues
 pub mod Invariant
 pub mod Readings
 pub mod OneRequest
 pub mod SoundStores
 pub mod AnyCall
+pub mod Written
+pub mod Shown
 pub mod AllCalls
+pub mod Asking
 pub mod Theorem
 pub mod AnyStore
 pub mod Meaning
 pub mod CallsOnRecords
+pub mod Sample
+pub mod ServersOnRecords
 pub mod Examples
 pub mod Visit
 pub mod AnyStoreExamples
+pub mod UselessServers

@@ -1,32 +1,39 @@
--- What it is to stand, in the paper's words: the calls contain the issue, and no later call ended it (`standing-means`).
+-- What it is to stand, in the paper's words: the calls contain the issue, and no later call ended it (`standing-means`); and that the
+-- codes and tokens that our server issues, read from its answers, are the random bytes that it was handed (`random-code`,
+-- `random-access`, `random-refresh`).
 --
--- In order: what one event issued and ended; what stands after one event; after a list of them; and that the code which a call
--- answered with is the one that it issued (`code-answered`; for tokens the claim says so itself).
+-- In order: what one event issued and ended; what stands after one event; after a list of them; codes and tokens.
 -- Assumes nothing.
-use mathlib.Core.Path.{_≡_, refl, ap, _∙_}
+use mathlib.Core.Path.{_≡_, refl, sym, ap, _∙_}
 use mathlib.Core.Logic.{_↔_, _⊎_, inl, inr}
 use mathlib.Core.Bool.{Bool, true, false, not, cond, _&&_, false≢true}
 use mathlib.Core.List.{List, [], _∷_, _++_, List·Memᴰ, List·Memᴰ·head, List·Memᴰ·tail, List·Memᴰ·cases-cons, List·Memᴰ·not-nil, List·Memᴰ·append-cases, Memᴰ·append-left, Memᴰ·append-right}
-use Prim.Native.Nat.{ℕ, max}
+use Prim.Native.Nat.{ℕ, max, _≤_}
+use native.Mathlib.Omega.{arith}
 use borrow.Author.Tests.{not-true}
-use lib.Seq.{sets}
+use lib.ListN.{length, length-drop}
+use lib.Seq.{length-take-le}
 use Rattle.octets.specs.Text.{bytes}
-use Rattle.form.specs.Content.{formValue}
-use Rattle.client_registry.specs.Registry.{Client, clientsOf}
-use Rattle.client_registry.specs.Lookup.{clientAt}
 use Rattle.octets.specs.Search.{keep}
-use Rattle.token_store.specs.Store.{decode, callTime}
-use Rattle.protocol.specs.declared.Decision.{Decision}
-use Rattle.protocol.specs.declared.Decision.the-variants.{Grant, Refuse}
-use Rattle.protocol.specs.Limits.{codeRandom}
-use Rattle.protocol.specs.Answers.{isGrant}
-use Rattle.protocol.specs.Authorization.{queryClient, readAuthorization, location, codeParameter, locationText}
-use Rattle.protocol.specs.Granting.{planOf, decisionOn}
-use Rattle.protocol.specs.Outcomes.{Handed, unfitBuffers, admit, outcomeBy, outcome, serveAuthorization, authorizationEndpoint}
-use Rattle.history.specs.Calls.{authorization, handedTo, outcomeOf, answerTo, Event, isUnfit}
-use Rattle.history.specs.Contents.{Issue, firstTwenty, issuedBy, isEndedBy, afterGrant, asked, isGranted, Contents, nothingYet, withEvent, withEvents}
 use Rattle.octets.proofs.Counting.{keep-in, keep-out}
-use Rattle.history.proofs.Theorem.{is-grant}
+use Rattle.encoding.specs.Hex.{hexText}
+use Rattle.client_registry.specs.Layout.{redirectRoom}
+use Rattle.client_registry.proofs.Clients.{redirect-most}
+use Rattle.client_registry.specs.Registry.{Client, clientsOf}
+use Rattle.client_registry.specs.Lookup.{numberOf, clientAt}
+use Rattle.token_store.specs.Store.{Store, decode, callTime}
+use Rattle.protocol.specs.Limits.{codeRandom, tokenRandom}
+use Rattle.protocol.specs.Answers.{isGrant}
+use Rattle.protocol.specs.Authorization.{queryClient}
+use Rattle.protocol.specs.Token.{readToken}
+use Rattle.protocol.specs.Granting.{secondHandle, decisionOn}
+use Rattle.protocol.specs.Outcomes.{Handed}
+use Rattle.history.specs.Calls.{Call, authorization, token, handedTo, Event}
+use Rattle.history.specs.Server.{outcomeOf, resultOf, ours}
+use Rattle.history.specs.Contents.{Issue, valueOf, isExchange, codeIn, accessIn, refreshIn, firstTwenty, lastTwenty, issuedBy, isEndedBy, standingAfter, Contents, nothingYet, withEvent, withEvents}
+use Rattle.history.proofs.Readings.{second-last}
+use Rattle.history.proofs.AnyCall.{outcomeOn, asked, unfitTo, isPast, seen-past, past-buffers, past-registry, fit-size, planOn, granted-on}
+use Rattle.history.proofs.Shown.{ReadAs, refusedAs, exchangeAs, refreshAs, token-read, never-refused, code-text, access-text, refresh-text}
 
 -- a list that grew by some, where those that pass a test went, or one that stayed
 module _ {A : Type 0} (x : A) (new old : List A) (ends : A → Bool) where
@@ -53,19 +60,16 @@ module _ {A : Type 0} (x : A) (new old : List A) (ends : A → Bool) where
 
 -- it was seen, and granted
 abbrev isIssue : Event → Bool
-isIssue e = not (isUnfit (e .answer)) && isGranted (e .answer)
+isIssue e = not (e .result .unfit) && e .result .granted
 
 module _ (clients : List Client) where
   -- what it issued, after calls that contain c
   unfoldable pub issuedIn : Contents → Event → List Issue
-  issuedIn c e =
-      let handed = handedTo (e .call) in
-      let r = asked clients (e .call) in
-      cond (isIssue e) (issuedBy (max (handed .clock) (c .highest)) (c .standing) (handed .random) (r .presented) (r .request)) []
+  issuedIn c e = cond (isIssue e) (issuedBy clients (max (handedTo (e .call) .clock) (c .highest)) (c .standing) (e .call) (e .result)) []
 
   -- whether it ended x
   unfoldable pub endedIn : Event → Issue → Bool
-  endedIn e x = let r = asked clients (e .call) in isIssue e && isEndedBy (r .presented) (r .request) x
+  endedIn e x = isIssue e && isEndedBy (e .call) x
 
   abbrev pub Unended : Issue → List Event → Type 0
   Unended x es = (e : Event) → List·Memᴰ e es → endedIn e x ≡ false
@@ -77,11 +81,11 @@ module _ (clients : List Client) where
 
   -- ---- what stands after one event
 
-  after-event : (c : Contents) (e : Event) → let handed = handedTo (e .call) in
+  after-event : (c : Contents) (e : Event) → let issued = issuedBy clients (max (handedTo (e .call) .clock) (c .highest)) (c .standing) in
       withEvent clients e c .standing
-      ≡ cond (isIssue e) (afterGrant (max (handed .clock) (c .highest)) (c .standing) (handed .random) (asked clients (e .call))) (c .standing)
-  unfolding withEvent
-  after-event c e = by (isUnfit (e .answer)) (isGranted (e .answer)) _ _ _
+      ≡ cond (isIssue e) (issued (e .call) (e .result) ++ keep (λ x. not (isEndedBy (e .call) x)) (c .standing)) (c .standing)
+  unfolding withEvent standingAfter
+  after-event c e = by (e .result .unfit) (e .result .granted) _ _ _
     where
       by : (u g : Bool) (t : ℕ) (l : List Issue) (rs : List (List ℕ))
           → cond u c (record { highest = t; standing = cond g l (c .standing); randoms = rs }) .standing ≡ cond (not u && g) l (c .standing)
@@ -90,10 +94,8 @@ module _ (clients : List Client) where
 
   entered : (c : Contents) (x : Issue) (e : Event)
       → List·Memᴰ x (withEvent clients e c .standing) ↔ (List·Memᴰ x (issuedIn c e) ⊎ (List·Memᴰ x (c .standing) × (endedIn e x ≡ false)))
-  unfolding issuedIn endedIn afterGrant
-  entered c x e =
-      let r = asked clients (e .call) in
-      rw (after-event c e) (grown x _ (c .standing) (isEndedBy (r .presented) (r .request)) (isIssue e))
+  unfolding issuedIn endedIn
+  entered c x e = rw (after-event c e) (grown x _ (c .standing) (isEndedBy (e .call)) (isIssue e))
 
   -- ---- and after a list of them
 
@@ -137,29 +139,75 @@ module _ (clients : List Client) where
       there (inl p) = absurd (List·Memᴰ·not-nil (p .0))
       there (inr k) = k
 
--- ---- the code that a call answered with is the one that it issued
+-- ---- codes and tokens are random bytes
 
-pub code-answered : (registry store query : List ℕ) (decision farm : ℕ) (handed : Handed)
-    → isGranted (answerTo registry store (authorization query decision farm handed)) ≡ true
-    → let client = clientAt (clientsOf registry) (queryClient (clientsOf registry) query) in
-    outcomeOf registry store (authorization query decision farm handed) .output
-    ≡ sets (handed .output) 0 (location (client .redirect) (codeParameter (firstTwenty (handed .random))) (formValue query (bytes "state")))
-unfolding outcomeOf isGranted isGrant outcome outcomeBy serveAuthorization locationText
-code-answered registry store query decision farm handed =
-    by (admit (unfitBuffers codeRandom (handed .random) (handed .output)) registry store (handed .clock))
-  where
-    clients : List Client
-    clients = clientsOf registry
+module _ (registry store : List ℕ) where
+  abbrev clients : List Client
+  clients = clientsOf registry
 
-    -- what is written for a decision
-    written : Decision → List ℕ
-    written =
-        locationText (clientAt clients (queryClient clients query) .redirect) (formValue query (bytes "state")) (firstTwenty (handed .random))
+  abbrev g : Store
+  g = decode store
 
-    by : (d : Decision) → let o = outcomeBy (authorizationEndpoint query decision farm) registry store handed d in
-        isGrant (o .answer .decision) ≡ true → o .output ≡ sets (handed .output) 0 (written Grant)
-    by Grant e =
-        let g = decode store in
-        let plan = planOf (callTime g (handed .clock)) (g .slots) (handed .random) (readAuthorization clients query decision farm) in
-        ap (λ (d : Decision). sets (handed .output) 0 (written d)) (is-grant (decisionOn plan) e)
-    by (Refuse r) e = absurd (false≢true e)
+  -- a call that is neither refused with 1 to 4 nor otherwise
+  module _ (c : Call) (fit : ours registry store c .unfit ≡ false) where
+    served : (isPast registry store c ≡ true) × (outcomeOf registry store c ≡ outcomeOn clients g c)
+    served = seen-past registry store c fit
+
+    sized : unfitTo c ≡ false
+    sized = past-buffers registry store c (served .0)
+
+    short : (n : ℕ) → length (clientAt clients n .redirect) ≤ redirectRoom
+    short = redirect-most registry (past-registry registry store c (served .0))
+
+    granted-plan : ours registry store c .granted ≡ true → isGrant (decisionOn (planOn clients g c)) ≡ true
+    granted-plan e = sym (granted-on clients g c) ∙ (rw (served .1) at e)
+
+  first-twenty : (n : ℕ) (random : List ℕ) → length random ≡ n → 20 ≤ n → length (firstTwenty random) ≡ 20
+  first-twenty n random e h = length-take-le 20 random (omega (arith, e))
+
+  module _ (query : List ℕ) (decision farm : ℕ) (handed : Handed) where
+    abbrev authorizes : Call
+    authorizes = authorization query decision farm handed
+
+    pub random-code : ours registry store authorizes .unfit ≡ false → ours registry store authorizes .granted ≡ true
+        → let client = clientAt clients (numberOf (valueOf query (bytes "client_id")) clients) in
+        codeIn client (ours registry store authorizes) ≡ hexText (firstTwenty (handed .random))
+    unfolding queryClient unfitTo asked handedTo
+    random-code fit granted =
+        let size = fit-size codeRandom handed (sized authorizes fit) in
+        rw (served authorizes fit .1)
+        (code-text clients (short authorizes fit) g [] query decision farm handed (sized authorizes fit) (granted-plan authorizes fit granted)
+        (first-twenty codeRandom (handed .random) size (omega arith)))
+
+  module _ (header body : List ℕ) (handed : Handed) (fit : ours registry store (token header body handed) .unfit ≡ false)
+      (granted : ours registry store (token header body handed) .granted ≡ true) where
+    abbrev asks : Call
+    asks = token header body handed
+
+    size : length (handed .random) ≡ tokenRandom
+    unfolding unfitTo
+    size = fit-size tokenRandom handed (sized asks fit)
+
+    first : length (firstTwenty (handed .random)) ≡ 20
+    first = first-twenty tokenRandom (handed .random) size (omega arith)
+
+    pub random-access : accessIn (ours registry store asks) ≡ hexText (firstTwenty (handed .random))
+    unfolding asked handedTo
+    random-access =
+        rw (served asks fit .1)
+        (access-text clients (short asks fit) g [] header body handed (sized asks fit) refl (granted-plan asks fit granted) first)
+
+    pub random-refresh : isExchange body ≡ true → refreshIn (ours registry store asks) ≡ hexText (lastTwenty (handed .random))
+    unfolding asked handedTo
+    random-refresh is = rw (served asks fit .1, ← (second-last (handed .random) size)) (by (token-read clients header body))
+      where
+        at : ℕ
+        at = callTime g (handed .clock)
+
+        by : ReadAs clients header body (readToken clients header body)
+            → refreshIn (resultOf (outcomeOn clients g asks)) ≡ hexText (secondHandle (handed .random))
+        by (refusedAs r e) = never-refused at (g .slots) (handed .random) r (rw e at (granted-plan asks fit granted))
+        by (exchangeAs _ e) =
+            refresh-text clients (short asks fit) g [] header body handed (sized asks fit) e (rw e at (granted-plan asks fit granted)) first
+            (rw (second-last (handed .random) size) (simp length-drop (omega (arith, size))))
+        by (refreshAs other _ e) = absurd (false≢true (sym other ∙ is))

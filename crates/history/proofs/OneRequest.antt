@@ -1,14 +1,15 @@
 -- One request at the store: what it has if it is granted, that it keeps the invariant (`request-kept`), and that it is granted, and a
--- check passes, exactly when the calls contain what the claim asks (`exchange-answer`, `refresh-answer`, `check-passes`).
+-- check passes, exactly when something live stands that answers it, and there is room (`exchange-answer`, `refresh-answer`,
+-- `check-passes`).
 --
--- In order: which reasons did not apply; the slots of what is issued; each request that is granted; any request; room; no handle that
--- comes once is in use; the claim's tests of an exchange, a refresh and a check.
+-- In order: which reasons did not apply; what is issued; each request that is granted; any request; room; no handle that comes once is
+-- in use; an exchange, a refresh and a check.
 --
 -- `slots` are the store's at the time t, `standing` what stands by the calls, `seen` the random bytes that came with them.
 -- Assumes nothing.
 use mathlib.Core.Path.{_≡_, refl, sym, ap, ap₂, _∙_}
 use mathlib.Core.Bool.{Bool, true, false, cond, _&&_, false≢true, not, _||_, and-assoc, and-true, Bool·not-not}
-use mathlib.Core.List.{List, _∷_, _++_, List·Memᴰ}
+use mathlib.Core.List.{List, [], _∷_, _++_, List·Memᴰ}
 use Prim.Native.Nat.{ℕ, _≤_, _+_, _-_}
 use native.Mathlib.Omega.{arith}
 use borrow.Author.Tests.{leb-true, not-false, leb-false, le-leb, lt-leb}
@@ -17,15 +18,13 @@ use Rattle.octets.specs.Lists.{same, every}
 use Rattle.octets.proofs.Booleans.{and-left}
 use Rattle.octets.proofs.Lists.{same-refl}
 use Rattle.encoding.specs.declared.HandleText.{HandleText}
-use Rattle.octets.specs.Search.{count, bit, any}
-use Rattle.token_store.specs.Store.{issue, isLive, isBoundCode, holds}
+use Rattle.octets.specs.Search.{count, bit, any, keep}
+use Rattle.token_store.specs.Store.{issue, isLive, isBoundCode, holds, soughtKey}
 use Rattle.token_store.specs.declared.Slot.{Slot}
 use Rattle.token_store.specs.declared.Sought.the-variants.{Code as soughtCode, Refresh as soughtRefresh, Access as soughtAccess}
 use Rattle.token_store.specs.Layout.{slotCount}
 use Rattle.protocol.specs.declared.Decision.{Decision}
 use Rattle.protocol.specs.declared.Decision.the-variants.{Grant, Refuse}
-use Rattle.protocol.specs.declared.ScopeAsked.{ScopeAsked}
-use Rattle.protocol.specs.declared.ScopeAsked.the-variants.{Everything, Only, Unreadable}
 use Rattle.protocol.specs.declared.CodeRequest.{CodeRequest}
 use Rattle.protocol.specs.declared.ExchangeRequest.{ExchangeRequest}
 use Rattle.protocol.specs.declared.RefreshRequest.{RefreshRequest}
@@ -36,12 +35,12 @@ use Rattle.protocol.specs.Answers.{isGrant}
 use Rattle.protocol.specs.Requests.{scopeGiven, fits}
 use Rattle.protocol.specs.Granting.{Plan, firstHandle, secondHandle, shownSlot, withoutCode, room, newCode, refusedPlan, codePlan, exchangePlan, refreshPlan, planFor, decisionOn, slotsBy, slotsAfter, isTaken, anyTaken, liveToken, checkSlots}
 use Rattle.protocol.proofs.Reasons.{grant-every, unrefused}
-use Rattle.history.specs.Contents.{code, access, refresh, Issue, isLiveAt, codeIssue, tokenIssue, askedOr, lastTwenty, originOf, issuedBy, isEndedBy, afterGrant, NeverTwice, isA, isOf, isWithinGranted}
-use Rattle.history.specs.Claim.{mayExchange, mayRefresh, mayPass, isLiveCheck, roomToExchange, roomToRefresh}
+use Rattle.history.specs.Contents.{Sort, code, access, refresh, lifetime, NeverTwice}
+use Rattle.history.specs.Server.{isLiveCheck}
 use Rattle.octets.proofs.Counting.{bit-le, count-append, keep-all, bit-none, any-count, count-keep}
-use Rattle.history.proofs.HeldIssues.{held, held-live, held-key, held-bound}
-use Rattle.history.proofs.Invariant.{Invariant, invariant-seen, invariant-issue, room-left, origin, withdrawn, contained, found}
-use Rattle.history.proofs.Readings.{second-last, Brings, AskedSet, within-granted}
+use Rattle.history.proofs.HeldIssues.{Handle, Held, asSlot}
+use Rattle.history.proofs.Invariant.{originHeld, Invariant, invariant-seen, invariant-issue, room-left, origin, withdrawn, contained, found}
+use Rattle.history.proofs.Readings.{onlyOf, firstOf, secondOf, Brings}
 
 -- ---- what is granted
 
@@ -82,67 +81,102 @@ module _ (t : ℕ) (slots : List Slot) (random : List ℕ) (p : HandleText) wher
   denied-slots (Exchange r) = refl
   denied-slots (Refresh r) = refl
 
--- ---- the slots of what is issued
+-- ---- what is issued
 
-code-slot : (t : ℕ) (handle : List ℕ) (r : CodeRequest) → newCode t handle r ≡ held (codeIssue t handle r)
+abbrev pub codeHeld : ℕ → Handle → CodeRequest → Held
+codeHeld t handle r = record {
+  sort = code;
+  bound = r .bound;
+  handle = handle;
+  client = r .client;
+  farm = r .farm;
+  scope = r .scope;
+  expiry = t + lifetime code;
+}
+
+-- a token of a sort, on the code or refresh token `origin`
+abbrev pub tokenHeld : Sort → ℕ → Handle → Held → ℕ → Held
+tokenHeld sort t handle origin scope = record {
+  sort = sort;
+  bound = false;
+  handle = handle;
+  client = origin .client;
+  farm = origin .farm;
+  scope = scope;
+  expiry = t + lifetime sort;
+}
+
+module _ (t : ℕ) (standing : List Held) (clients : ℕ) (random : List ℕ) (twenties : List (List ℕ)) (p : HandleText) where
+  -- what a request that is granted issues
+  unfoldable pub issuedHeld : (request : Request) → Brings clients random twenties request → List Held
+  unfolding Brings
+  issuedHeld (Refused r) q = []
+  issuedHeld (Code r) q = codeHeld t (onlyOf (q .0)) r ∷ []
+  issuedHeld (Exchange r) q =
+      let o = originHeld code p standing in tokenHeld refresh t (secondOf q) o (o .scope) ∷ tokenHeld access t (firstOf q) o (o .scope) ∷ []
+  issuedHeld (Refresh r) q =
+      let o = originHeld refresh p standing in tokenHeld access t (firstOf (q .0)) o (scopeGiven (r .scope) (o .scope)) ∷ []
+
+  -- and what it ends
+  unfoldable pub isEndedHeld : Request → Held → Bool
+  isEndedHeld (Refused r) e = false
+  isEndedHeld (Code r) e = false
+  isEndedHeld (Exchange r) e = soughtKey soughtCode p (asSlot e)
+  isEndedHeld (Refresh r) e = false
+
+  -- what stands after it
+  abbrev pub heldAfter : (request : Request) → Brings clients random twenties request → List Held
+  heldAfter request q = issuedHeld request q ++ keep (λ e. not (isEndedHeld request e)) standing
+
+code-slot : (t : ℕ) (handle : Handle) (r : CodeRequest) → newCode t (handle .octets) r ≡ asSlot (codeHeld t handle r)
 code-slot t handle r = by (r .bound)
   where
-    by : (b : Bool) → newCode t handle (record { client = r .client; farm = r .farm; scope = r .scope; bound = b })
-        ≡ held (codeIssue t handle (record { client = r .client; farm = r .farm; scope = r .scope; bound = b }))
+    by : (b : Bool) → newCode t (handle .octets) (record { client = r .client; farm = r .farm; scope = r .scope; bound = b })
+        ≡ asSlot (codeHeld t handle (record { client = r .client; farm = r .farm; scope = r .scope; bound = b }))
     by true = refl
     by false = refl
 
-pub given-asked : (asked : ScopeAsked) (set : ℕ) → scopeGiven asked set ≡ askedOr asked set
-unfolding scopeGiven askedOr
-given-asked Everything set = refl
-given-asked (Only s) set = refl
-given-asked Unreadable set = refl
-
-two-issues : {t : ℕ} {slots : List Slot} {standing : List Issue} {seen : List (List ℕ)} (x y : Issue)
+two-issues : {t : ℕ} {slots : List Slot} {standing : List Held} {seen : List (List ℕ)} (x y : Held)
     → Invariant t slots standing seen → 2 ≤ room t slots
-    → Invariant t (issue t (held y) (issue t (held x) slots)) (y ∷ x ∷ standing) (x .handle ∷ y .handle ∷ seen)
+    → Invariant t (issue t (asSlot y) (issue t (asSlot x) slots)) (y ∷ x ∷ standing) (x .handle .octets ∷ y .handle .octets ∷ seen)
 unfolding count
 two-issues {t} {seen = seen} x y v h =
     let w = invariant-issue v x (omega arith) in
-    let both = invariant-issue w y (omega (arith, room-left v, room-left w, bit-le (isLiveAt t x))) in
-    invariant-seen both (x .handle ∷ y .handle ∷ seen) (λ k. omega arith)
+    let both = invariant-issue w y (omega (arith, room-left v, room-left w, bit-le (isLive t (asSlot x)))) in
+    invariant-seen both (x .handle .octets ∷ y .handle .octets ∷ seen) (λ k. omega arith)
 
 -- ---- each request keeps the invariant
 
-module _ {t : ℕ} {slots : List Slot} {standing : List Issue} {seen : List (List ℕ)} (v : Invariant t slots standing seen) (once : NeverTwice seen)
+module _ {t : ℕ} {slots : List Slot} {standing : List Held} {seen : List (List ℕ)} (v : Invariant t slots standing seen) (once : NeverTwice seen)
     (clients : ℕ) (random : List ℕ) (twenties : List (List ℕ)) (p : HandleText) where
   abbrev plan : Request → Plan
   plan request = planFor t slots random p request
 
-  abbrev after : Request → List Issue
-  after request = afterGrant t standing random (record { request = request; presented = p })
-
-  granted-kept : (request : Request) → Brings clients random twenties request → Granted t slots random p request
-      → Invariant t (plan request .granted) (after request) (twenties ++ seen)
-  unfolding planFor refusedPlan codePlan exchangePlan refreshPlan afterGrant issuedBy isEndedBy Brings count
+  granted-kept : (request : Request) (q : Brings clients random twenties request) → Granted t slots random p request
+      → Invariant t (plan request .granted) (heldAfter t standing clients random twenties p request q) (twenties ++ seen)
+  unfolding planFor refusedPlan codePlan exchangePlan refreshPlan issuedHeld isEndedHeld Brings count
   granted-kept (Refused r) q e = absurd (false≢true (sym (unrefused (refusedPlan t slots random r .reasons) e 0 (lit< tt))))
   granted-kept (Code r) q e =
-      rw (q .0 .handles, keep-all, code-slot t (firstHandle random) r)
-      (invariant-issue v (codeIssue t (firstHandle random) r) (code-room t slots random p r e))
+      rw (q .0 .handles, keep-all, code-slot t (onlyOf (q .0)) r) (invariant-issue v (codeHeld t (onlyOf (q .0)) r) (code-room t slots random p r e))
   granted-kept (Exchange r) q e =
-      let o = originOf code p standing in
+      let o = originHeld code p standing in
       let has = exchange-has t slots random p r e in
-      rw (q .handles, ← (origin v once code p (has .0)), second-last random (q .size))
-      (two-issues (tokenIssue access t (firstHandle random) o (o .scope)) (tokenIssue refresh t (lastTwenty random) o (o .scope))
-      (withdrawn v once code p) (has .1))
+      rw (q .handles, ← (origin v once code p (has .0)))
+      (two-issues (tokenHeld access t (firstOf q) o (o .scope)) (tokenHeld refresh t (secondOf q) o (o .scope)) (withdrawn v once code p) (has .1))
   granted-kept (Refresh r) q e =
-      let o = originOf refresh p standing in
+      let o = originHeld refresh p standing in
       let has = refresh-has t slots random p r e in
-      rw (q .0 .handles, ← (origin v once refresh p (has .0)), keep-all, given-asked)
-      (invariant-seen (invariant-issue v (tokenIssue access t (firstHandle random) o (askedOr (r .scope) (o .scope))) (has .1)) _ (λ k. omega arith))
+      rw (q .0 .handles, ← (origin v once refresh p (has .0)), keep-all)
+      (invariant-seen (invariant-issue v (tokenHeld access t (firstOf (q .0)) o (scopeGiven (r .scope) (o .scope))) (has .1)) _ (λ k. omega arith))
 
-  pub request-kept : (request : Request) → Brings clients random twenties request
-      → Invariant t (slotsAfter (plan request)) (cond (isGrant (decisionOn (plan request))) (after request) standing) (twenties ++ seen)
+  pub request-kept : (request : Request) (q : Brings clients random twenties request)
+      → Invariant t (slotsAfter (plan request)) (cond (isGrant (decisionOn (plan request))) (heldAfter t standing clients random twenties p request q) standing)
+      (twenties ++ seen)
   unfolding slotsBy isGrant
   request-kept request q = by (decisionOn (plan request)) (granted-kept request q)
     where
-      by : (d : Decision) → (isGrant d ≡ true → Invariant t (plan request .granted) (after request) (twenties ++ seen))
-          → Invariant t (slotsBy d (plan request)) (cond (isGrant d) (after request) standing) (twenties ++ seen)
+      by : (d : Decision) → (isGrant d ≡ true → Invariant t (plan request .granted) (heldAfter t standing clients random twenties p request q) (twenties ++ seen))
+          → Invariant t (slotsBy d (plan request)) (cond (isGrant d) (heldAfter t standing clients random twenties p request q) standing) (twenties ++ seen)
       by Grant f = f refl
       by (Refuse r) f =
           rw (denied-slots t slots random p request)
@@ -167,7 +201,16 @@ four-tests : (l c m r : Bool) {n x : Bool} → n ≡ m → x ≡ false
     → (not (not (l && c)) && (n && (not (not r) && (not x && true)))) ≡ (l && (c && m) && r)
 four-tests l c m r p q = rw (p, q) (simp (Bool·not-not, and-true, and-assoc))
 
-module _ {t : ℕ} {slots : List Slot} {standing : List Issue} {seen : List (List ℕ)} (v : Invariant t slots standing seen) (once : NeverTwice seen)
+-- what an exchange, and a refresh, needs of a thing issued
+abbrev pub isExchangeableHeld : ℕ → HandleText → ExchangeRequest → Held → Bool
+isExchangeableHeld t p r e =
+    isLive t (asSlot e) && (soughtKey soughtCode p (asSlot e) && (eqb (e .client) (r .client) && (not (isBoundCode (asSlot e)) || r .again)))
+
+abbrev pub isRefreshableHeld : ℕ → HandleText → RefreshRequest → Held → Bool
+isRefreshableHeld t p r e =
+    isLive t (asSlot e) && (soughtKey soughtRefresh p (asSlot e) && (eqb (e .client) (r .client) && fits (r .scope) (e .scope)))
+
+module _ {t : ℕ} {slots : List Slot} {standing : List Held} {seen : List (List ℕ)} (v : Invariant t slots standing seen) (once : NeverTwice seen)
     (p : HandleText) where
   -- ---- no handle that comes once is in use
 
@@ -189,8 +232,9 @@ module _ {t : ℕ} {slots : List Slot} {standing : List Issue} {seen : List (Lis
 
     -- ---- what each request is answered
 
-    pub exchange-answer : (r : ExchangeRequest) → isGrant (decisionOn (planFor t slots random p (Exchange r))) ≡ mayExchange t standing p r
-    unfolding mayExchange planFor exchangePlan every
+    pub exchange-answer : (r : ExchangeRequest) → isGrant (decisionOn (planFor t slots random p (Exchange r)))
+        ≡ (any (isExchangeableHeld t p r) standing && leb (count (λ e. isLive t (asSlot e) && not (soughtKey soughtCode p (asSlot e))) standing + 2) 512)
+    unfolding planFor exchangePlan every
     exchange-answer r =
         grant-every (exchangePlan t slots random p r .reasons)
         ∙ four-tests (isLive t s) (eqb (s .client) (r .client)) (not (isBoundCode s) || r .again) _ (not-or (isBoundCode s) (r .again)) none-taken
@@ -199,21 +243,20 @@ module _ {t : ℕ} {slots : List Slot} {standing : List Issue} {seen : List (Lis
         s : Slot
         s = shownSlot soughtCode p slots
 
-        there : any (λ e. isLiveAt t e && (isA code e && isOf p e && (eqb (e .client) (r .client) && (not (e .bound) || r .again)))) standing
-            ≡ (isLive t s && (eqb (s .client) (r .client) && (not (isBoundCode s) || r .again)))
-        there =
-            contained v once code p (λ x. eqb (x .client) (r .client) && (not (isBoundCode x) || r .again)) _
-            (λ e. ap (λ (b : Bool). isLiveAt t e && b) (held-bound p (λ b. eqb (e .client) (r .client) && (not b || r .again)) e))
+        there : any (isExchangeableHeld t p r) standing ≡ (isLive t s && (eqb (s .client) (r .client) && (not (isBoundCode s) || r .again)))
+        there = contained v once code p (λ x. eqb (x .client) (r .client) && (not (isBoundCode x) || r .again))
 
-        space : leb 2 (room t (withoutCode p slots)) ≡ roomToExchange t standing p
+        space : leb 2 (room t (withoutCode p slots))
+            ≡ leb (count (λ e. isLive t (asSlot e) && not (soughtKey soughtCode p (asSlot e))) standing + 2) 512
         space =
             leb-room 2 (room t (withoutCode p slots)) _ (room-left (withdrawn v once code p))
-            ∙ ap (λ (k : ℕ). leb (k + 2) slotCount) (count-keep (isLiveAt t) (λ e. not (isA code e && isOf p e)) standing)
+            ∙ ap (λ (k : ℕ). leb (k + 2) slotCount)
+            (count-keep (λ e. isLive t (asSlot e)) (λ e. not (soughtKey soughtCode p (asSlot e))) standing)
 
-    pub refresh-answer : (r : RefreshRequest) → AskedSet (r .scope)
-        → isGrant (decisionOn (planFor t slots random p (Refresh r))) ≡ mayRefresh t standing p r
-    unfolding mayRefresh planFor refreshPlan every
-    refresh-answer r asked =
+    pub refresh-answer : (r : RefreshRequest) → isGrant (decisionOn (planFor t slots random p (Refresh r)))
+        ≡ (any (isRefreshableHeld t p r) standing && leb (count (λ e. isLive t (asSlot e)) standing + 1) 512)
+    unfolding planFor refreshPlan every
+    refresh-answer r =
         grant-every (refreshPlan t slots random p r .reasons)
         ∙ four-tests (isLive t s) (eqb (s .client) (r .client)) (fits (r .scope) (s .scope)) _ (Bool·not-not _) first-unused
         ∙ ap₂ _&&_ (sym there) space
@@ -221,21 +264,17 @@ module _ {t : ℕ} {slots : List Slot} {standing : List Issue} {seen : List (Lis
         s : Slot
         s = shownSlot soughtRefresh p slots
 
-        there : any (λ e. isLiveAt t e && (isA refresh e && isOf p e && (eqb (e .client) (r .client) && isWithinGranted (r .scope) (e .scope))))
-            standing
-            ≡ (isLive t s && (eqb (s .client) (r .client) && fits (r .scope) (s .scope)))
-        there =
-            contained v once refresh p (λ x. eqb (x .client) (r .client) && fits (r .scope) (x .scope)) _
-            (λ e. rw (held-key p refresh e, within-granted (r .scope) asked (e .scope)))
+        there : any (isRefreshableHeld t p r) standing ≡ (isLive t s && (eqb (s .client) (r .client) && fits (r .scope) (s .scope)))
+        there = contained v once refresh p (λ x. eqb (x .client) (r .client) && fits (r .scope) (x .scope))
 
-        space : leb 1 (room t slots) ≡ roomToRefresh t standing
-        space = leb-room 1 (room t slots) (count (isLiveAt t) standing) (room-left v)
+        space : leb 1 (room t slots) ≡ leb (count (λ e. isLive t (asSlot e)) standing + 1) 512
+        space = leb-room 1 (room t slots) (count (λ e. isLive t (asSlot e)) standing) (room-left v)
 
   -- ---- the check
 
-  pub check-passes : isLiveCheck (checkSlots t slots p) ≡ mayPass t standing p
-  unfolding checkSlots mayPass isLiveCheck
-  check-passes = by (isLive t s) ∙ sym (and-true (isLive t s)) ∙ sym there
+  pub check-passes : isLiveCheck (checkSlots t slots p) ≡ any (λ e. isLive t (asSlot e) && soughtKey soughtAccess p (asSlot e)) standing
+  unfolding checkSlots isLiveCheck
+  check-passes = by (isLive t s) ∙ sym there
     where
       s : Slot
       s = shownSlot soughtAccess p slots
@@ -244,10 +283,10 @@ module _ {t : ℕ} {slots : List Slot} {standing : List Issue} {seen : List (Lis
       by true = refl
       by false = refl
 
-      there : any (λ e. isLiveAt t e && (isA access e && isOf p e)) standing ≡ (isLive t s && true)
-      there = contained v once access p (λ x. true) _ (λ e. rw (and-true, held-key p access e))
+      there : any (λ e. isLive t (asSlot e) && soughtKey soughtAccess p (asSlot e)) standing ≡ isLive t s
+      there = simp and-true at (contained v once access p (λ x. true))
 
-  pub check-names : (e : Issue) → List·Memᴰ e standing → isLiveAt t e ≡ true → (isA access e && isOf p e) ≡ true
+  pub check-names : (e : Held) → List·Memᴰ e standing → isLive t (asSlot e) ≡ true → soughtKey soughtAccess p (asSlot e) ≡ true
       → checkSlots t slots p ≡ Live (record { client = e .client; farm = e .farm; scope = e .scope; left = e .expiry - t })
   unfolding checkSlots
-  check-names e m live here = rw (found v once access p e m live here, held-live t e ∙ live)
+  check-names e m live here = rw (found v once access p e m live here, live)

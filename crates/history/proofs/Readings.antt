@@ -1,7 +1,7 @@
 -- What reading a call can give: the bounds of what it asks for, so that what is issued on it fits a slot, and the scope asked.
 --
--- In order: reasons to refuse; scope sets; the scope asked, within the granted one by the set's test and by the claim's; the clients
--- of a fit registry; what a request brings, and that every query and every body is read so.
+-- In order: scope sets; the scope asked, by the server's tests and by the claim's; the clients of a fit registry; what a request
+-- brings, and that every query and every body is read so.
 -- Assumes nothing.
 use mathlib.Core.Path.{_≡_, refl}
 use mathlib.Core.Bool.{Bool, true, false, not, cond, _||_}
@@ -11,10 +11,10 @@ use native.Mathlib.Omega.{arith}
 use borrow.Author.Tests.{ltb-true, eqb-true, not-false}
 use lib.Dec.{eqb, lit<}
 use lib.ListN.{length, drop, getD, length-drop}
-use lib.Seq.{take-all}
+use lib.Seq.{take-all, length-take-le}
 use Rattle.octets.specs.Text.{bytes}
 use Rattle.octets.specs.Lists.{every, Bytes}
-use Rattle.octets.proofs.Lists.{every-at}
+use Rattle.octets.proofs.Lists.{every-at, take-bytes, drop-bytes}
 use Rattle.octets.proofs.Booleans.{of-T, or-none, both-ways, implied, implies}
 use Rattle.octets.proofs.Table.{at}
 use Rattle.form.specs.Content.{Value, missing, once, repeated, formValue, isMissing, isRepeated, onlyValue, isOnce}
@@ -41,8 +41,9 @@ use Rattle.protocol.specs.ClientForms.{formReasons}
 use Rattle.protocol.specs.Token.{readExchange, readRefresh, readGrant, readToken}
 use Rattle.protocol.specs.Granting.{firstHandle, secondHandle}
 use Rattle.protocol.proofs.Reasons.{unrefused, decided}
-use Rattle.history.specs.Calls.{isUnfitRefusal}
-use Rattle.history.specs.Contents.{isWithinGranted, lastTwenty}
+use Rattle.history.specs.Server.{isUnfitRefusal}
+use Rattle.history.specs.Contents.{noneBeyond, isWithinGranted, namesOr, askedOr, lastTwenty}
+use Rattle.history.proofs.HeldIssues.{Handle}
 
 -- ---- scope sets
 
@@ -92,11 +93,26 @@ within-names a b h =
     (λ e. has-within (ofByte a) (ofByte b) h (λ k l. implies (has a k) (has b k) (rw (place k l) at (every-at allowed places 0 e k l))))
 
 -- the server's test is the claim's
-pub within-granted : (asked : ScopeAsked) → AskedSet asked → (set : ℕ) → fits asked set ≡ isWithinGranted asked set
-unfolding fits isWithinGranted
-within-granted Everything a set = refl
-within-granted (Only s) a set = within-names s set (a .byte)
-within-granted Unreadable a set = refl
+pub within-granted : (asked : Value) (set : ℕ) → fits (scopeAsked asked) set ≡ isWithinGranted asked set
+unfolding fits isWithinGranted scopeAsked askedBy noneBeyond
+within-granted missing set = refl
+within-granted (once v) set = by (readScope v) refl
+  where
+    by : (r : ScopeValue) → readScope v ≡ r → fits (askedBy r) set ≡ noneBeyond r set
+    by (Names s) e = within-names (s .bits) set (read-bound v s e .0)
+    by Invalid e = refl
+within-granted repeated set = refl
+
+-- and so is the scope given
+pub given-asked : (asked : Value) (set : ℕ) → scopeGiven (scopeAsked asked) set ≡ askedOr asked set
+unfolding scopeGiven askedOr scopeAsked askedBy namesOr
+given-asked missing set = refl
+given-asked (once v) set = by (readScope v)
+  where
+    by : (r : ScopeValue) → scopeGiven (askedBy r) set ≡ namesOr r set
+    by (Names s) = refl
+    by Invalid = refl
+given-asked repeated set = refl
 
 -- ---- the clients of a fit registry
 
@@ -115,11 +131,27 @@ clients-fit registry bytes fit = record {
 -- random bytes for one handle, and for two, and their twenties
 pub record OneHandle (random : List ℕ) (twenties : List (List ℕ)) : Type 0 where
   pub size : length random ≡ codeRandom
+  pub small : Bytes random
   pub handles : twenties ≡ firstHandle random ∷ []
 
 pub record TwoHandles (random : List ℕ) (twenties : List (List ℕ)) : Type 0 where
   pub size : length random ≡ tokenRandom
+  pub small : Bytes random
   pub handles : twenties ≡ firstHandle random ∷ secondHandle random ∷ []
+
+module _ {random : List ℕ} {twenties : List (List ℕ)} where
+  abbrev pub onlyOf : OneHandle random twenties → Handle
+  onlyOf q = record { octets = firstHandle random; size = length-take-le 20 random (omega (arith, q .size)); small = take-bytes 20 random (q .small) }
+
+  abbrev pub firstOf : TwoHandles random twenties → Handle
+  firstOf q = record { octets = firstHandle random; size = length-take-le 20 random (omega (arith, q .size)); small = take-bytes 20 random (q .small) }
+
+  abbrev pub secondOf : TwoHandles random twenties → Handle
+  secondOf q = record {
+    octets = secondHandle random;
+    size = length-take-le 20 (drop 20 random) (simp length-drop (omega (arith, q .size)));
+    small = take-bytes 20 (drop 20 random) (drop-bytes 20 random (q .small));
+  }
 
 -- the second twenty of forty random bytes are the last
 pub second-last : (random : List ℕ) → length random ≡ tokenRandom → secondHandle random ≡ lastTwenty random

@@ -7,15 +7,16 @@
 use mathlib.Core.Path.{_≡_, refl, sym, ap, _∙_}
 use mathlib.Core.Bool.{Bool, true, false, cond}
 use mathlib.Core.List.{List, [], _∷_, map}
-use Prim.Native.Nat.{ℕ, zero, suc, _+_, _*_, _^_, _≤_, _<_}
+use Prim.Native.Nat.{ℕ, suc, _+_, _*_, _^_, _≤_, _<_}
 use native.Mathlib.Omega.{arith}
-use lib.Dec.{ltb, lit<, lit≤}
+use lib.Dec.{ltb, lit≤}
 use lib.ListN.{length, take, drop, getD, replicate, length-drop, length-replicate}
 use lib.Seq.{drop-at, drop-drop, length-take-le}
 use Rattle.octets.specs.Lists.{part, Bytes}
 use Rattle.octets.specs.BigEndian.{bigEndianBytes}
 use Rattle.octets.proofs.BigEndian.{length-be-bytes}
 use Rattle.octets.proofs.Booleans.{and-left}
+use Rattle.octets.proofs.Lists.{each-replicate, zero-bytes}
 use Rattle.encoding.specs.declared.HandleText.{HandleText}
 use Rattle.token_store.specs.Layout.{timeSize, slotCount, handleSize, expirySize, slotSize, storeSize, slotStart, latestTime}
 use Rattle.octets.specs.Search.{firstOr}
@@ -115,11 +116,6 @@ slots-same g h e i = behind g ∙ ap (λ (l : List Slot). part (concat (map enco
 
 -- ---- the fresh store
 
-each-replicate : {A : Type 0} (P : A → Type 0) (a : A) (n k : ℕ) → P a → P (getD (replicate n a) k a)
-each-replicate P a zero k p = p
-each-replicate P a (suc n) zero p = p
-each-replicate P a (suc n) (suc k) p = each-replicate P a n k p
-
 pub sound-fresh : (clients : ℕ) → Sound clients fresh
 unfolding fresh
 sound-fresh clients = record {
@@ -127,9 +123,6 @@ sound-fresh clients = record {
   early = omega arith;
   slots = λ k. each-replicate (SoundSlot clients) freeSlot slotCount k (sound-free clients);
 }
-
-pub zero-bytes : (n : ℕ) → Bytes (replicate n 0)
-zero-bytes n k = each-replicate (λ (b : ℕ). b < 256) 0 n k (lit< tt)
 
 encode-zeros : (n : ℕ) → n ≡ storeSize → encode (decode (replicate n 0)) ≡ replicate n 0
 encode-zeros n e = encode-decode (replicate n 0) (length-replicate n 0 ∙ e) (zero-bytes n)

@@ -1,201 +1,316 @@
 -- Demand 3: the one claim about every list of calls (`demand3`).
 --
 -- A call that is judged is past refusals 1 to 4, so it is served on the store that the calls before it left, and that store belongs to
--- what they contain (`kept-all`). So what it is answered is what its request is answered there (`exchange-answer` and its siblings).
+-- what they contain (`kept-all`). So what it is answered is what its request is answered there (`exchange-answer` and its siblings), and
+-- the claim's tests of the issues that stand are tests of the slots that hold them (HeldIssues).
 --
--- In order: a call that is judged; the token endpoint; the check; a refused try; the theorem.
+-- In order: a call that is judged; the token endpoint; the check; the location; a refused try; the theorem.
 -- Assumes nothing.
-use mathlib.Core.Path.{_≡_, refl, sym, ap, ap₂, _∙_}
-use mathlib.Core.Bool.{true, false, _&&_, false≢true}
+use mathlib.Core.Path.{_≡_, refl, sym, ap, ap₂, _∙_, fun-ext, subst}
+use mathlib.Core.Bool.{Bool, true, false, not, _&&_}
 use mathlib.Core.List.{List, [], _∷_, List·Memᴰ}
-use Prim.Native.Nat.{ℕ, _-_}
+use Prim.Native.Nat.{ℕ, _+_, _-_}
 use native.Mathlib.Omega.{arith}
+use lib.Dec.{leb, eqb}
 use lib.ListN.{length}
-use lib.Seq.{sets}
+use Rattle.octets.specs.Text.{bytes}
 use Rattle.octets.specs.Lists.{Bytes, part}
+use Rattle.octets.specs.Search.{count, any}
+use Rattle.octets.proofs.Counting.{count-map, any-map, member-map}
 use Rattle.encoding.specs.Hex.{readHandle}
-use Rattle.encoding.specs.declared.HandleText.{HandleText}
-use Rattle.client_registry.specs.Registry.{clientsOf}
+use Rattle.form.specs.Content.{Value, formValue}
+use Rattle.client_registry.proofs.Clients.{redirect-most}
+use Rattle.client_registry.specs.Registry.{Client, clientsOf}
+use Rattle.client_registry.specs.Lookup.{numberOf, clientAt}
 use Rattle.token_store.specs.Layout.{slotStart, slotSize}
-use Rattle.token_store.specs.Store.{Store, decode}
+use Rattle.token_store.specs.Store.{Store, isLive, decode, soughtKey}
 use Rattle.token_store.specs.declared.Slot.{Slot}
+use Rattle.token_store.specs.declared.Sought.the-variants.{Code as soughtCode}
 use Rattle.protocol.specs.declared.Decision.{Decision}
-use Rattle.protocol.specs.declared.Decision.the-variants.{Grant, Refuse}
-use Rattle.protocol.specs.declared.ExchangeRequest.{ExchangeRequest}
-use Rattle.protocol.specs.declared.RefreshRequest.{RefreshRequest}
-use Rattle.protocol.specs.declared.Request.{Request}
-use Rattle.protocol.specs.declared.Request.the-variants.{Exchange, Refresh}
+use Rattle.protocol.specs.declared.Decision.the-variants.{Grant}
 use Rattle.protocol.specs.declared.Reading.{Reading}
-use Rattle.protocol.specs.declared.CheckAnswer.the-variants.{Live}
+use Rattle.protocol.specs.Limits.{tokenRandom}
 use Rattle.protocol.specs.Answers.{isGrant}
-use Rattle.protocol.specs.Token.{tokenReply, refreshMember}
-use Rattle.protocol.specs.Granting.{Plan, firstHandle, secondHandle, exchangePlan, refreshPlan, planFor, planOf, decisionOn, checkSlots}
-use Rattle.protocol.specs.Outcomes.{Handed, Outcome, replyText, serveToken, serveCheck}
-use Rattle.history.specs.Calls.{Call, token, check, handedTo, AllWellTyped, Answer, checkAnswer, isUnfit}
-use Rattle.history.specs.Contents.{code, access, refresh, Issue, isA, isLiveAt, isOf, firstTwenty, lastTwenty, askedOr, originOf, asked, isGranted, twenties, NeverTwice}
-use Rattle.history.specs.Claim.{mayExchange, mayRefresh, mayPass, isLiveAnswer, store, contained, standing, timeAt, next, Judged, Asks, Demand3}
+use Rattle.protocol.specs.Requests.{fits, scopeAsked}
+use Rattle.protocol.specs.Authorization.{queryClient, location, codeParameter, locationText}
+use Rattle.protocol.specs.ClientForms.{callClient}
+use Rattle.protocol.specs.Token.{readToken, tokenReply, refreshMember}
+use Rattle.protocol.specs.Granting.{Plan, shownSlot, firstHandle, secondHandle, exchangePlan, refreshPlan, planFor, planOf, decisionOn}
+use Rattle.protocol.specs.Outcomes.{Handed, Outcome, replyText, serveCheck}
+use Rattle.history.specs.Calls.{Call, authorization, token, check, handedTo, AllWellTyped, Result}
+use Rattle.history.specs.Server.{Answer, outcomeOf, isPassed, namedIn, namedBy, resultOf, ours}
+use Rattle.history.specs.Contents.{Sort, noIssue, code, access, refresh, Issue, isA, isLiveAt, isOf, originOf, valueOf, isExchange, isRefresh, askedOr, firstTwenty, lastTwenty, twenties, NeverTwice}
+use Rattle.history.specs.Claim.{isExchangeable, mayExchange, isRefreshable, mayRefresh, mayPass, Answers, store, contained, standing, timeAt, next, Judged, Asks, Demand3}
+use Rattle.history.proofs.HeldIssues.{Held, noneHeld, sought, asSlot, asIssue, issue-live, issue-key, issue-repeated}
 use Rattle.history.proofs.Invariant.{Invariant, invariant-later, origin}
-use Rattle.history.proofs.Readings.{AskedSet, TwoHandles, second-last, Brings, token-brings}
-use Rattle.history.proofs.OneRequest.{exchange-has, refresh-has, given-asked, exchange-answer, refresh-answer, check-passes, check-names}
+use Rattle.history.proofs.Readings.{second-last, within-granted, given-asked}
+use Rattle.history.proofs.OneRequest.{exchange-has, refresh-has, isExchangeableHeld, isRefreshableHeld, exchange-answer, refresh-answer, check-passes, check-names}
 use Rattle.history.proofs.SoundStores.{slots-same}
-use Rattle.history.proofs.AnyCall.{outcomeOn, unfitTo, isPast, TakenCall, unseen, seen, seen-past, take, past-buffers, two-handles, leftBy, store-on, granted-on, refused-left}
+use Rattle.history.proofs.AnyCall.{outcomeOn, asked, unfitTo, isPast, TakenCall, unseen, seen, seen-past, take, past-buffers, past-registry, fit-size, planOn, leftBy, store-on, granted-on, refused-left}
+use Rattle.history.proofs.Written.{textOn, written-on}
+use Rattle.history.proofs.Shown.{is-grant, exchangeAsked, refreshAsked, exchangeReading, refreshReading, origin-shown}
+use Rattle.history.proofs.Asking.{caller-is, exchange-read, refresh-read}
 use Rattle.history.proofs.AllCalls.{storeWith, Kept, kept-read, kept-all, never-tail}
 
-pub is-grant : (d : Decision) → isGrant d ≡ true → d ≡ Grant
-unfolding isGrant
-is-grant Grant e = refl
-is-grant (Refuse r) e = absurd (false≢true e)
+module _ (registry : List ℕ) (small : Bytes registry) (cs : List Call) (typed : AllWellTyped cs) where
+  abbrev clients : List Client
+  clients = clientsOf registry
 
-module _ (registry : List ℕ) (bytes : Bytes registry) (cs : List Call) (typed : AllWellTyped cs) where
-  kept : Kept (length (clientsOf registry)) (store registry cs) (contained registry cs)
-  kept = kept-all registry bytes cs typed
+  kept : Kept clients (store ours registry cs) (contained ours registry cs)
+  kept = kept-all registry small cs typed
 
-  -- the slots, and the store, that the calls left
+  -- the slots, the things issued and the store that the calls left
   abbrev slots : List Slot
   slots = kept .slots
 
+  abbrev held : List Held
+  held = kept .held
+
   abbrev left : Store
-  left = storeWith (contained registry cs) slots
+  left = storeWith (contained ours registry cs) slots
 
   -- ---- a call that is judged
 
-  on-record : (c : Call) → next registry cs c ≡ outcomeOn (clientsOf registry) (decode (store registry cs)) c
-      → next registry cs c ≡ outcomeOn (clientsOf registry) (left) c
-  on-record c e = e ∙ ap (λ (g : Store). outcomeOn (clientsOf registry) g c) (kept-read kept)
+  on-record : (c : Call) → outcomeOf registry (store ours registry cs) c ≡ outcomeOn clients (decode (store ours registry cs)) c
+      → outcomeOf registry (store ours registry cs) c ≡ outcomeOn clients left c
+  on-record c e = e ∙ ap (λ (g : Store). outcomeOn clients g c) (kept-read kept)
 
-  served : (c : Call) → isUnfit (next registry cs c .answer) ≡ false
-      → (isPast registry (store registry cs) c ≡ true) × (next registry cs c ≡ outcomeOn (clientsOf registry) (left) c)
-  served c judged = let p = seen-past registry (store registry cs) c judged in (p .0, on-record c (p .1))
+  module _ (c : Call) (judged : Judged ours registry cs c) where
+    past : isPast registry (store ours registry cs) c ≡ true
+    past = seen-past registry (store ours registry cs) c (judged .fit) .0
 
-  invariant-at : (clock : ℕ) → NeverTwice (contained registry cs .randoms)
-      → Invariant (timeAt registry cs clock) slots (standing registry cs) (contained registry cs .randoms)
-  invariant-at clock once = invariant-later (kept .inv once) (timeAt registry cs clock) (omega arith)
+    served : outcomeOf registry (store ours registry cs) c ≡ outcomeOn clients left c
+    served = on-record c (seen-past registry (store ours registry cs) c (judged .fit) .1)
+
+    result-is : next ours registry cs c ≡ resultOf (outcomeOn clients left c)
+    result-is = ap resultOf served
+
+    granted-is : next ours registry cs c .granted ≡ isGrant (decisionOn (planOn clients left c))
+    granted-is = ap (λ (r : Result). r .granted) result-is ∙ granted-on clients left c
+
+    once-seen : NeverTwice (contained ours registry cs .randoms)
+    once-seen = never-tail (twenties c) (contained ours registry cs .randoms) (judged .once)
+
+    answers-is : Answers (handedTo c) (next ours registry cs c) (textOn clients left c)
+    answers-is =
+        let short = redirect-most registry (past-registry registry (store ours registry cs) c past) in
+        let w = written-on clients short left c (past-buffers registry (store ours registry cs) c past) in
+        rw result-is (record { ends = w .long; written = w .put })
+
+  invariant-at : (clock : ℕ) → NeverTwice (contained ours registry cs .randoms)
+      → Invariant (timeAt ours registry cs clock) slots held (contained ours registry cs .randoms)
+  invariant-at clock once = invariant-later (kept .inv once) (timeAt ours registry cs clock) (omega arith)
+
+  -- tests of the issues that stand, as tests of what is held
+  any-held : (p : Issue → Bool) (q : Held → Bool) → ((e : Held) → p (asIssue clients e) ≡ q e) → any p (standing ours registry cs) ≡ any q held
+  any-held p q agree =
+      ap (λ (l : List Issue). any p l) (kept .issues)
+      ∙ any-map (asIssue clients) p held
+      ∙ ap (λ (r : Held → Bool). any r held) (fun-ext agree)
+
+  count-held : (p : Issue → Bool) (q : Held → Bool) → ((e : Held) → p (asIssue clients e) ≡ q e)
+      → count p (standing ours registry cs) ≡ count q held
+  count-held p q agree =
+      ap (λ (l : List Issue). count p l) (kept .issues)
+      ∙ count-map (asIssue clients) p held
+      ∙ ap (λ (r : Held → Bool). count r held) (fun-ext agree)
 
   -- ---- the token endpoint
 
-  module _ (header body : List ℕ) (handed : Handed) (p : HandleText) where
+  module _ (header body : List ℕ) (handed : Handed) (a : Asks ours registry cs header body handed) where
     abbrev random : List ℕ
     random = handed .random
 
     abbrev t : ℕ
-    t = timeAt registry cs (handed .clock)
+    t = timeAt ours registry cs (handed .clock)
 
-    abbrev done : Outcome Answer
-    done = next registry cs (token header body handed)
+    abbrev asks : Call
+    asks = token header body handed
 
-    abbrev plan : Request → Plan
-    plan request = planFor t slots random p request
+    size : length random ≡ tokenRandom
+    unfolding unfitTo
+    size = fit-size tokenRandom handed (past-buffers registry (store ours registry cs) asks (past asks (a .judged)))
 
-    module _ {request : Request} (a : Asks registry cs header body handed p request) where
-      on : (isPast registry (store registry cs) (token header body handed) ≡ true)
-          × (done ≡ outcomeOn (clientsOf registry) left (token header body handed))
-      on = served (token header body handed) (a .judged .0)
+    once : NeverTwice (contained ours registry cs .randoms)
+    once = once-seen asks (a .judged)
 
-      once : NeverTwice (contained registry cs .randoms)
-      once = never-tail (twenties (token header body handed)) (contained registry cs .randoms) (a .judged .1)
+    invariant : Invariant t slots held (contained ours registry cs .randoms)
+    invariant = invariant-at (handed .clock) once
 
-      two : TwoHandles random (twenties (token header body handed))
-      unfolding unfitTo twenties
-      two = two-handles handed (past-buffers registry (store registry cs) (token header body handed) (on .0))
+    new : NeverTwice (firstHandle random ∷ secondHandle random ∷ contained ours registry cs .randoms)
+    unfolding twenties
+    new = rw (second-last random size) (a .judged .once)
 
-      new : NeverTwice (firstHandle random ∷ secondHandle random ∷ contained registry cs .randoms)
-      new = rw (two .handles) at (a .judged .1)
+    abbrev plan : Reading → Plan
+    plan reading = planOf t slots random reading
 
-      granted-is : isGranted (done .answer) ≡ isGrant (decisionOn (plan request))
-      unfolding asked handedTo
-      granted-is =
-          ap (λ (o : Outcome Answer). isGranted (o .answer)) (on .1)
-          ∙ granted-on (clientsOf registry) (left) (token header body handed)
-          ∙ ap (λ (r : Reading). isGrant (decisionOn (planOf t slots random r))) (a .reads)
+    granted-as : {reading : Reading} → readToken clients header body ≡ reading → next ours registry cs asks .granted ≡ isGrant (decisionOn (plan reading))
+    unfolding asked handedTo
+    granted-as read = granted-is asks (a .judged) ∙ ap (λ (r : Reading). isGrant (decisionOn (plan r))) read
 
-      -- the reply to a request that is granted
-      reply-is : isGranted (done .answer) ≡ true → done .output ≡ sets (handed .output) 0 (replyText random (plan request) Grant)
-      unfolding outcomeOn serveToken
-      reply-is e =
-          ap (λ (o : Outcome Answer). o .output) (on .1)
-          ∙ ap (λ (r : Reading). let m = planOf t slots random r in sets (handed .output) 0 (replyText random m (decisionOn m))) (a .reads)
-          ∙ ap (λ (d : Decision). sets (handed .output) 0 (replyText random (plan request) d))
-          (is-grant (decisionOn (plan request)) (sym granted-is ∙ e))
+    -- what is written for a reading that is granted
+    reply-as : {reading : Reading} → readToken clients header body ≡ reading → isGrant (decisionOn (plan reading)) ≡ true
+        → Answers handed (next ours registry cs asks) (replyText random (plan reading) Grant)
+    unfolding asked handedTo textOn
+    reply-as {reading} read granted =
+        rw (sym (ap (λ (d : Decision). replyText random (plan reading) d) (is-grant (decisionOn (plan reading)) granted)))
+        (rw read at (answers-is asks (a .judged)))
 
-    module _ (r : ExchangeRequest) (a : Asks registry cs header body handed p (Exchange r)) where
-      exchange-claim : isGranted (done .answer) ≡ mayExchange t (standing registry cs) p r
-      exchange-claim = granted-is a ∙ exchange-answer (invariant-at (handed .clock) (once a)) (once a) p random (new a) r
+    -- the scope of what is presented, where it is live
+    scope-held : (sort : Sort) (text : List ℕ) → isLive t (shownSlot (sought sort) (readHandle text) slots) ≡ true
+        → shownSlot (sought sort) (readHandle text) slots .scope ≡ originOf sort text (standing ours registry cs) .scope
+    unfolding noIssue noneHeld
+    scope-held sort text live =
+        ap (λ (s : Slot). s .scope) (sym (origin invariant once sort (readHandle text) live))
+        ∙ sym (origin-shown clients held (λ e. e .scope) sort text refl)
+        ∙ ap (λ (l : List Issue). originOf sort text l .scope) (sym (kept .issues))
 
-      exchange-reply : isGranted (done .answer) ≡ true
-          → let scope = originOf code p (standing registry cs) .scope in
-          done .output ≡ sets (handed .output) 0 (tokenReply (firstTwenty random) (refreshMember (lastTwenty random)) scope)
+    -- ---- an exchange
+
+    module _ (is : isExchange body ≡ true) where
+      abbrev codeShown : List ℕ
+      codeShown = valueOf body (bytes "code")
+
+      read-exchange : readToken clients header body ≡ exchangeReading clients header body
+      read-exchange = exchange-read clients header body (a .admitted) is
+
+      exchangeable : (e : Held) → isExchangeable clients t (standing ours registry cs) header body (asIssue clients e)
+          ≡ isExchangeableHeld t (readHandle codeShown) (exchangeAsked clients header body) e
+      exchangeable e =
+          rw (caller-is clients header body)
+          (ap₂ _&&_ (issue-live clients t e)
+          (issue-repeated clients codeShown (callClient clients header body) (formValue body (bytes "redirect_uri")) e))
+
+      others : (e : Held) → (isLiveAt t (asIssue clients e) && not (isA code (asIssue clients e) && isOf codeShown (asIssue clients e)))
+          ≡ (isLive t (asSlot e) && not (soughtKey soughtCode (readHandle codeShown) (asSlot e)))
+      others e = ap₂ (λ (x y : Bool). x && not y) (issue-live clients t e) (issue-key clients code codeShown e)
+
+      exchange-claim : next ours registry cs asks .granted ≡ mayExchange clients t (standing ours registry cs) header body
+      unfolding mayExchange
+      exchange-claim =
+          granted-as read-exchange
+          ∙ exchange-answer invariant once (readHandle codeShown) random new (exchangeAsked clients header body)
+          ∙ ap₂ _&&_ (sym (any-held _ _ exchangeable)) (ap (λ (n : ℕ). leb (n + 2) 512) (sym (count-held _ _ others)))
+
+      exchange-reply : next ours registry cs asks .granted ≡ true
+          → let scope = originOf code codeShown (standing ours registry cs) .scope in
+          Answers handed (next ours registry cs asks) (tokenReply (firstTwenty random) (refreshMember (lastTwenty random)) scope)
       unfolding replyText planFor exchangePlan
       exchange-reply e =
-          let live = exchange-has t slots random p r (sym (granted-is a) ∙ e) .0 in
-          let from = origin (invariant-at (handed .clock) (once a)) (once a) code p live in
-          reply-is a e
-          ∙ ap₂ (λ (h : List ℕ) (s : Slot). sets (handed .output) 0 (tokenReply (firstTwenty random) (refreshMember h) (s .scope)))
-          (second-last random (two a .size)) (sym from)
+          let granted = sym (granted-as read-exchange) ∙ e in
+          let live = exchange-has t slots random (readHandle codeShown) (exchangeAsked clients header body) granted .0 in
+          rw (← (second-last random size), ← (scope-held code codeShown live)) (reply-as read-exchange granted)
 
-    module _ (r : RefreshRequest) (a : Asks registry cs header body handed p (Refresh r)) where
-      asked-set : AskedSet (r .scope)
-      unfolding Brings
-      asked-set = (rw (a .reads) at (token-brings (clientsOf registry) (two a) header body)) .1
+    -- ---- a refresh
 
-      refresh-claim : isGranted (done .answer) ≡ mayRefresh t (standing registry cs) p r
-      refresh-claim = granted-is a ∙ refresh-answer (invariant-at (handed .clock) (once a)) (once a) p random (new a) r asked-set
+    module _ (is : isRefresh body ≡ true) where
+      abbrev tokenShown : List ℕ
+      tokenShown = valueOf body (bytes "refresh_token")
 
-      refresh-reply : isGranted (done .answer) ≡ true
-          → let scope = askedOr (r .scope) (originOf refresh p (standing registry cs) .scope) in
-          done .output ≡ sets (handed .output) 0 (tokenReply (firstTwenty random) [] scope)
+      abbrev scope : Value
+      scope = formValue body (bytes "scope")
+
+      read-refresh : readToken clients header body ≡ refreshReading clients header body
+      read-refresh = refresh-read clients header body (a .admitted) is
+
+      refreshable : (e : Held) → isRefreshable clients t (standing ours registry cs) header body (asIssue clients e)
+          ≡ isRefreshableHeld t (readHandle tokenShown) (refreshAsked clients header body) e
+      refreshable e =
+          rw (caller-is clients header body, ← (within-granted scope (e .scope)))
+          (ap₂ _&&_ (issue-live clients t e) (ap (λ (b : Bool). b && (eqb (e .client) (callClient clients header body) && fits (scopeAsked scope) (e .scope)))
+          (issue-key clients refresh tokenShown e)))
+
+      refresh-claim : next ours registry cs asks .granted ≡ mayRefresh clients t (standing ours registry cs) header body
+      unfolding mayRefresh
+      refresh-claim =
+          granted-as read-refresh
+          ∙ refresh-answer invariant once (readHandle tokenShown) random new (refreshAsked clients header body)
+          ∙ ap₂ _&&_ (sym (any-held _ _ refreshable)) (ap (λ (n : ℕ). leb (n + 1) 512) (sym (count-held _ _ (issue-live clients t))))
+
+      refresh-reply : next ours registry cs asks .granted ≡ true
+          → let granted = originOf refresh tokenShown (standing ours registry cs) .scope in
+          Answers handed (next ours registry cs asks) (tokenReply (firstTwenty random) [] (askedOr scope granted))
       unfolding replyText planFor refreshPlan
       refresh-reply e =
-          let live = refresh-has t slots random p r (sym (granted-is a) ∙ e) .0 in
-          let from = origin (invariant-at (handed .clock) (once a)) (once a) refresh p live in
-          reply-is a e
-          ∙ ap (λ (set : ℕ). sets (handed .output) 0 (tokenReply (firstTwenty random) [] set))
-          (given-asked (r .scope) _ ∙ ap (λ (s : Slot). askedOr (r .scope) (s .scope)) (sym from))
+          let granted = sym (granted-as read-refresh) ∙ e in
+          let live = refresh-has t slots random (readHandle tokenShown) (refreshAsked clients header body) granted .0 in
+          rw (← (given-asked scope (originOf refresh tokenShown (standing ours registry cs) .scope)), ← (scope-held refresh tokenShown live))
+          (reply-as read-refresh granted)
 
   -- ---- the check
 
-  module _ (presented : List ℕ) (clock : ℕ) (judged : Judged registry cs (check presented clock)) where
-    checked : next registry cs (check presented clock) .answer ≡ checkAnswer (checkSlots (timeAt registry cs clock) slots (readHandle presented))
-    unfolding outcomeOn serveCheck
-    checked = ap (λ (o : Outcome Answer). o .answer) (served (check presented clock) (judged .0) .1)
+  module _ (presented : List ℕ) (clock : ℕ) (judged : Judged ours registry cs (check presented clock)) where
+    abbrev now : ℕ
+    now = timeAt ours registry cs clock
 
-    fresh-randoms : NeverTwice (contained registry cs .randoms)
-    fresh-randoms = never-tail (twenties (check presented clock)) (contained registry cs .randoms) (judged .1)
+    checked : next ours registry cs (check presented clock) ≡ resultOf (outcomeOn clients left (check presented clock))
+    checked = result-is (check presented clock) judged
 
-    check-claim : isLiveAnswer (next registry cs (check presented clock) .answer)
-        ≡ mayPass (timeAt registry cs clock) (standing registry cs) (readHandle presented)
-    unfolding isLiveAnswer
-    check-claim = ap isLiveAnswer checked ∙ check-passes (invariant-at clock fresh-randoms) fresh-randoms (readHandle presented)
+    still : Invariant now slots held (contained ours registry cs .randoms)
+    still = invariant-at clock (once-seen (check presented clock) judged)
 
-    check-named : (e : Issue) → List·Memᴰ e (standing registry cs) → isLiveAt (timeAt registry cs clock) e ≡ true
-        → (isA access e && isOf (readHandle presented) e) ≡ true
-        → next registry cs (check presented clock) .answer
-        ≡ checkAnswer (Live (record { client = e .client; farm = e .farm; scope = e .scope; left = e .expiry - timeAt registry cs clock }))
-    check-named e m live here =
-        checked ∙ ap checkAnswer (check-names (invariant-at clock fresh-randoms) fresh-randoms (readHandle presented) e m live here)
+    check-claim : next ours registry cs (check presented clock) .passed ≡ mayPass now (standing ours registry cs) presented
+    unfolding outcomeOn serveCheck isPassed mayPass
+    check-claim =
+        ap (λ (r : Result). r .passed) checked
+        ∙ check-passes still (once-seen (check presented clock) judged) (readHandle presented)
+        ∙ sym (any-held _ _ (λ e. ap₂ _&&_ (issue-live clients now e) (issue-key clients access presented e)))
+
+    check-named : (e : Issue) → List·Memᴰ e (standing ours registry cs) → isLiveAt now e ≡ true → (isA access e && isOf presented e) ≡ true
+        → next ours registry cs (check presented clock) .named
+        ≡ record { client = e .client; farm = e .farm; scope = e .scope; left = e .expiry - now }
+    unfolding outcomeOn serveCheck namedIn namedBy
+    check-named e m =
+        member-map (asIssue clients) Named held
+        (λ x i live here.
+        let key = sym (issue-key clients access presented x) ∙ here in
+        let names = check-names still (once-seen (check presented clock) judged) (readHandle presented) x i (sym (issue-live clients now x) ∙ live) key in
+        ap (λ (r : Result). r .named) checked ∙ ap namedBy names)
+        e (subst (λ (l : List Issue). List·Memᴰ e l) (kept .issues) m)
+      where
+        Named : Issue → Type 0
+        Named x =
+            isLiveAt now x ≡ true → (isA access x && isOf presented x) ≡ true
+            → next ours registry cs (check presented clock) .named
+            ≡ record { client = x .client; farm = x .farm; scope = x .scope; left = x .expiry - now }
+
+  -- ---- the location
+
+  module _ (query : List ℕ) (decision farm : ℕ) (handed : Handed) (judged : Judged ours registry cs (authorization query decision farm handed)) where
+    code-located : next ours registry cs (authorization query decision farm handed) .granted ≡ true
+        → let redirect = clientAt clients (numberOf (valueOf query (bytes "client_id")) clients) .redirect in
+        let parameter = codeParameter (firstTwenty (handed .random)) in
+        Answers handed (next ours registry cs (authorization query decision farm handed)) (location redirect parameter (formValue query (bytes "state")))
+    unfolding textOn locationText queryClient handedTo
+    code-located e =
+        let authorizes = authorization query decision farm handed in
+        let granted = sym (granted-is authorizes judged) ∙ e in
+        rw (is-grant (decisionOn (planOn clients left authorizes)) granted) at (answers-is authorizes judged)
 
   -- ---- a refused try
 
-  refused-slots : (c : Call) → isGranted (next registry cs c .answer) ≡ false
-      → (i : ℕ) → part (next registry cs c .store) (slotStart i) slotSize ≡ part (store registry cs) (slotStart i) slotSize
-  refused-slots c none i = by (take registry (store registry cs) c)
+  refused-slots : (c : Call) → next ours registry cs c .granted ≡ false
+      → (i : ℕ) → part (next ours registry cs c .store) (slotStart i) slotSize ≡ part (store ours registry cs) (slotStart i) slotSize
+  refused-slots c none i = by (take registry (store ours registry cs) c)
     where
-      by : TakenCall registry (store registry cs) c
-          → part (next registry cs c .store) (slotStart i) slotSize ≡ part (store registry cs) (slotStart i) slotSize
+      by : TakenCall registry (store ours registry cs) c
+          → part (next ours registry cs c .store) (slotStart i) slotSize ≡ part (store ours registry cs) (slotStart i) slotSize
       by (unseen j n e) = ap (λ (o : Outcome Answer). part (o .store) (slotStart i) slotSize) e
       by (seen past e) =
           let o = on-record c e in
-          rw (o, store-on (clientsOf registry) left c, kept .bytes)
-          (slots-same (leftBy (clientsOf registry) left c) left (refused-left (clientsOf registry) left c (rw o at none)) i)
+          rw (o, store-on clients left c, kept .bytes)
+          (slots-same (leftBy clients left c) left (refused-left clients left c (rw o at none)) i)
 
--- For every registry of bytes, fit or not, and every list of calls whose farm numbers have 32 bits. That no twenty random bytes
--- come twice is asked where a call is judged (`Judged`); what a refused try leaves needs no such premise.
-pub demand3 : (registry : List ℕ) → Bytes registry → (cs : List Call) → AllWellTyped cs → Demand3 registry cs
-demand3 registry bytes cs typed = record {
-  exchanges = exchange-claim registry bytes cs typed;
-  refreshes = refresh-claim registry bytes cs typed;
-  passes = check-claim registry bytes cs typed;
-  names = check-named registry bytes cs typed;
-  exchangeReplies = exchange-reply registry bytes cs typed;
-  refreshReplies = refresh-reply registry bytes cs typed;
-  spendsNothing = λ c none i below. refused-slots registry bytes cs typed c none i;
+-- For every registry of bytes, fit or not, and every list of calls whose random bytes are bytes and whose farm numbers have 32 bits. That
+-- no twenty random bytes come twice is asked where a call is judged (`Judged`); what a refused try leaves needs no such premise.
+pub demand3 : (registry : List ℕ) → Bytes registry → (cs : List Call) → AllWellTyped cs → Demand3 ours registry cs
+demand3 registry small cs typed = record {
+  exchanges = exchange-claim registry small cs typed;
+  refreshes = refresh-claim registry small cs typed;
+  passes = check-claim registry small cs typed;
+  names = check-named registry small cs typed;
+  exchangeReplies = exchange-reply registry small cs typed;
+  refreshReplies = refresh-reply registry small cs typed;
+  locates = code-located registry small cs typed;
+  spendsNothing = λ c none i below. refused-slots registry small cs typed c none i;
 }

@@ -1,163 +1,359 @@
--- The visit from raw bytes: the sample registry, the fresh store of zero bytes, and the calls of Examples.
+-- Demand 3 on some calls, by the theorem, from raw bytes: the sample registry, the fresh store of zero bytes, and the calls of Examples.
+-- So every clause of the claim is used, and its premises are met; by what the calls contain, each says what our server does.
 --
--- In order: the sample registry is fit; what the server answers to calls past refusals 1 to 4 (`replay`), so at 1599, at 1600 and
--- in the autumn night; and the exchange at 1599 and 1600 once more by the theorem, whose premises these calls meet.
+-- In order: what the claim speaks of (`judged`); its clauses, by what the calls contain; every case of
+-- Examples (`decided`), which hold each 'exactly when' both ways; what is named and written, and a refused try, after calls of every kind.
 -- Assumes nothing.
-use mathlib.Core.Path.{_≡_, refl, ap, _∙_}
-use mathlib.Core.Bool.{Bool, true, false}
-use mathlib.Core.List.{List, [], _∷_}
-use Prim.Native.Nat.{ℕ, _+_, _≤_, max}
-use native.Mathlib.Omega.{arith}
-use borrow.Author.Tests.{ltb-true, not-true}
+use mathlib.Core.Path.{_≡_, refl, sym, ap, ap₂, _∙_, subst}
+use mathlib.Core.Bool.{Bool, true, false, cond, _&&_, _||_, Bool·beq, false≢true}
+use mathlib.Core.List.{List, [], _∷_, _++_, List·Memᴰ, List·Memᴰ·head, List·Memᴰ·tail}
+use Prim.Native.Nat.{ℕ, _+_, _*_, _-_, _^_, _<_, max}
+use borrow.Author.Tests.{ltb-true}
 use lib.Dec.{ltb, lit<}
-use lib.ListN.{getD}
-use Rattle.octets.specs.Lists.{Bytes, every, same}
-use Rattle.octets.proofs.Lists.{same-eq}
-use Rattle.octets.proofs.Booleans.{and-left, and-right}
-use Rattle.client_registry.specs.Registry.{Client, soundText, soundId, soundRedirect, soundSecret, soundField, soundCommon, soundPublic, soundConfidential, soundRecord, recordSize, recordsBehind, soundRecords, clientsOf, differ, distinct, fitRegistry}
-use Rattle.client_registry.specs.Sample.{recordOf, registryOf, sampleConfidential, samplePublic, sampleClients, sampleRegistry}
-use Rattle.token_store.specs.Layout.{latestTime}
-use Rattle.octets.specs.Search.{bit, count}
-use Rattle.token_store.specs.Store.{fresh}
-use Rattle.octets.proofs.Searches.{every-each}
-use Rattle.protocol.specs.declared.ErrorWord.the-variants.{InvalidGrant}
-use Rattle.protocol.specs.declared.Refusal.the-variants.{Token}
-use Rattle.protocol.specs.declared.Decision.{Decision}
-use Rattle.protocol.specs.declared.Decision.the-variants.{Grant, Refuse}
-use Rattle.protocol.specs.declared.Request.the-variants.{Exchange}
-use Rattle.protocol.specs.Token.{readToken}
-use Rattle.protocol.proofs.Starred.{countUp}
-use Rattle.history.specs.Calls.{Call, handedTo, AllWellTyped, outcomeOf, answerTo, storeAfterAll, Event, events, freshStore, isUnfitRefusal, isUnfitDecision, isUnfit}
-use Rattle.history.specs.Contents.{isGranted, Contents, nothingYet, withEvents, twenties, NeverTwice}
-use Rattle.history.specs.Claim.{mayExchange, Judged}
+use lib.Seq.{sets}
+use lib.ListN.{length, take}
+use Rattle.octets.specs.Text.{bytes}
+use Rattle.octets.specs.Lists.{part, every, same, indexOf, splitOn, grow}
+use Rattle.octets.specs.Search.{count, keep, indexWhere, any, firstOr}
+use Rattle.octets.proofs.Booleans.{and-left, and-right, to-T, of-T-equal}
+use Rattle.encoding.specs.Hex.{hexText, hexDigit, hexValue}
+use Rattle.encoding.specs.Base64.{isBase64, base64Bytes, groupBytes, soundGroup, sextet, none}
+use Rattle.form_coding.specs.Coding.{decodeAfter, firstByte, extra, isEscape, plain, wellFormed, sound, encode, encodeByte}
+use Rattle.form.specs.Content.{formValue, isWellFormedForm, pieceName, pieceValue, gives, add, valueIn, isMissing, isRepeated, onlyValue, isOnce}
+use Rattle.scope.specs.Set.{names}
+use Rattle.scope.specs.Value.{bitFrom, bitOf, union, readScope, chosen, spaced, scopeText}
+use Rattle.client_registry.specs.Registry.{Client, clientsOf, distinct}
+use Rattle.client_registry.specs.Lookup.{numberOf, clientAt}
+use Rattle.client_registry.specs.Sample.{sampleConfidential, samplePublic, sampleClients, sampleRegistry}
+use Rattle.token_store.specs.Store.{encode as encodeStore, fresh}
+use Rattle.protocol.specs.Refusals.{firstOf}
+use Rattle.protocol.specs.Requests.{askedBy, scopeAsked, unlessRefused}
+use Rattle.protocol.specs.Authorization.{location, codeParameter, isSoundState, separator, stateText}
+use Rattle.protocol.specs.ClientForms.{isInvalidForm, lowerCase, sameAnyCase, credentials, isBadHeader, headerId, headerSecret, presentedId, presentedSecret, isUnclearId, isImpostor, callClient, isInvalidClient, formReasons}
+use Rattle.protocol.specs.Token.{readToken, tokenReply, refreshMember, readExchange, readRefresh, readGrant}
+use Rattle.protocol.specs.Outcomes.{Handed}
+use Rattle.protocol.proofs.Starred.{countUp, rfcQuery}
+use Rattle.history.specs.Calls.{Call, authorization, token, check, WellTyped, AllWellTyped, Result, storeAfterAll, events, freshStore, handedTo}
+use Rattle.history.specs.Contents.{code, access, refresh, Issue, isA, isLiveAt, isOf, originOf, valueOf, isExchange, isRefresh, askedOr, firstTwenty, lastTwenty, Contents, nothingYet, withEvents, twenties, noIssue, noneBeyond, isWithinGranted, namesOr}
+use Rattle.history.specs.Claim.{isAdmitted, mayExchange, mayRefresh, mayPass, Answers, contained, next, Judged, Asks, Demand3, idIn, isRepeatedBy}
+use Rattle.history.specs.Server.{ours}
 use Rattle.history.proofs.SoundStores.{sound-fresh}
 use Rattle.history.proofs.AnyCall.{unfitTo}
 use Rattle.history.proofs.AllCalls.{fresh-bytes}
 use Rattle.history.proofs.Theorem.{demand3}
-use Rattle.history.proofs.CallsOnRecords.{answerOn, leftByAll, eventsOn, isFitting, Replayed, replay, replay-answer}
-use Rattle.history.proofs.Examples.{handedAt, authorizeAt, header, body, tokenAt, exchangeAt, visit, night, containedIn, codeAt, wordIn, wordOn, presented, asksTokens, computed}
+use Rattle.history.proofs.CallsOnRecords.{resultOn, leftByAll, eventsOn, isFitting, Replayed, replay, replay-result, replay-fit}
+pub use Rattle.history.proofs.Sample.{sample-clients, sample-bytes}
+use Rattle.history.proofs.Sample.{sample-fit, tested-bytes, distinct-never}
+use Rattle.history.proofs.Examples.{inVisit, asking, exchangeAt, authorizeAt, codeText, lessText, refreshText, againText, barnQuery, barnAccess, barnBody, handedAt, header, exchangeOf, repeating, tokenAt, refreshFor, visit, day, evening, Case, Cases, cases, yields, may, isTyped, isAsked, isJudged, leftIn, containedIn, inDay, inEvening, claimAgrees, agreesOn, agrees, computed, accessText, barnCode, barnText, barnToken, codeUntil, redirect, tokenUntil}
 
--- ---- the sample registry
+-- ---- what the claim speaks of
 
-pub sample-fit : fitRegistry sampleRegistry ≡ true
-unfolding fitRegistry distinct soundRecords recordsBehind recordSize soundRecord soundConfidential soundPublic soundCommon soundField soundSecret soundRedirect soundId soundText every same sampleRegistry sampleClients samplePublic sampleConfidential registryOf recordOf
-sample-fit = refl
+tested-call : (c : Call) → isTyped c ≡ true → WellTyped c
+unfolding isTyped
+tested-call (authorization query decision farm handed) e =
+    let f = ltb farm (2 ^ 32) in
+    let r = every (λ b. ltb b 256) (handed .random) in
+    (ltb-true farm (2 ^ 32) (and-left f r e), tested-bytes (handed .random) (and-right f r e))
+tested-call (token h b handed) e = tested-bytes (handed .random) e
+tested-call (check presented clock) e = tt
 
-sample-clients : clientsOf sampleRegistry ≡ sampleClients
-unfolding recordsBehind recordSize sampleRegistry sampleClients samplePublic sampleConfidential registryOf recordOf
-sample-clients = refl
+pub tested-calls : (cs : List Call) → every isTyped cs ≡ true → AllWellTyped cs
+unfolding AllWellTyped every
+tested-calls [] e = tt
+tested-calls (c ∷ cs) e =
+    (tested-call c (and-left (isTyped c) (every isTyped cs) e), tested-calls cs (and-right (isTyped c) (every isTyped cs) e))
 
-all-bytes : every (λ b. ltb b 256) sampleRegistry ≡ true
-unfolding every sampleRegistry sampleClients samplePublic sampleConfidential registryOf recordOf
-all-bytes = refl
+-- calls, and what they contain, which is computed over records
+pub record Run : Type 0 where
+  pub calls : List Call
+  pub typed : every isTyped calls ≡ true
+  pub contents : Contents
+  pub contains : containedIn calls ≡ contents
 
-pub sample-bytes : Bytes sampleRegistry
-sample-bytes k = ltb-true (getD sampleRegistry k 0) 256 (every-each (λ b. ltb b 256) 0 sampleRegistry refl all-bytes k)
+module _ (run : Run) where
+  abbrev cs : List Call
+  cs = run .calls
 
--- ---- what the server answers
+  abbrev k : Contents
+  k = run .contents
 
-module _ (cs : List Call) (typed : AllWellTyped cs) (past : every isFitting cs ≡ true) where
-  replayed : Replayed sampleRegistry sample-bytes sample-fit fresh cs
-  replayed = replay sampleRegistry sample-bytes sample-fit fresh (sound-fresh _) cs typed past
+  pub typed : AllWellTyped cs
+  typed = tested-calls cs (run .typed)
 
-  events-are : events sampleRegistry freshStore cs ≡ eventsOn sampleClients fresh cs
-  events-are =
-      ap (λ (b : List ℕ). events sampleRegistry b cs) fresh-bytes
-      ∙ replayed .same-events
-      ∙ ap (λ (clients : List Client). eventsOn clients fresh cs) sample-clients
+  replayed : Replayed sampleRegistry sample-bytes sample-fit fresh cs (keep isFitting cs)
+  replayed = replay sampleRegistry sample-bytes sample-fit fresh (sound-fresh _) cs typed
 
-  answer-is : (c : Call) → isFitting c ≡ true
-      → answerTo sampleRegistry (storeAfterAll sampleRegistry freshStore cs) c ≡ answerOn sampleClients (leftByAll sampleClients fresh cs) c
-  answer-is c p =
-      ap (λ (b : List ℕ). answerTo sampleRegistry (storeAfterAll sampleRegistry b cs) c) fresh-bytes
-      ∙ replay-answer sampleRegistry sample-bytes sample-fit fresh cs replayed c p
-      ∙ ap (λ (clients : List Client). answerOn clients (leftByAll clients fresh cs) c) sample-clients
+  -- what comes of the next call
+  abbrev after : Call → Result
+  after c = next ours sampleRegistry cs c
 
-visit-past : every isFitting visit ≡ true
-unfolding every isFitting unfitTo handedTo visit authorizeAt handedAt countUp
-visit-past = refl
+  pub contents-are : contained ours sampleRegistry cs ≡ k
+  unfolding containedIn
+  contents-are =
+      ap (λ (b : List ℕ). withEvents (clientsOf sampleRegistry) nothingYet (events ours sampleRegistry b cs)) fresh-bytes
+      ∙ replayed .same-contents nothingYet
+      ∙ ap (λ (clients : List Client). withEvents clients nothingYet (eventsOn clients fresh (keep isFitting cs))) sample-clients
+      ∙ run .contains
 
-night-past : every isFitting night ≡ true
-unfolding every isFitting unfitTo handedTo night authorizeAt handedAt countUp
-night-past = refl
+  pub result-is : (c : Call) → isFitting c ≡ true → after c ≡ resultOn sampleClients (leftIn cs) c
+  unfolding leftIn
+  result-is c e =
+      ap (λ (b : List ℕ). ours sampleRegistry (storeAfterAll ours sampleRegistry b cs) c) fresh-bytes
+      ∙ replay-result sampleRegistry sample-bytes sample-fit fresh cs (keep isFitting cs) replayed c e
+      ∙ ap (λ (clients : List Client). resultOn clients (leftByAll clients fresh (keep isFitting cs)) c) sample-clients
 
-exchange-past : (clock : ℕ) → ltb latestTime clock ≡ false → isFitting (exchangeAt clock) ≡ true
-unfolding isFitting unfitTo handedTo exchangeAt tokenAt handedAt countUp
-exchange-past clock e = rw e
+  pub store-is : storeAfterAll ours sampleRegistry freshStore cs ≡ encodeStore (leftIn cs)
+  unfolding leftIn
+  store-is =
+      ap (λ (b : List ℕ). storeAfterAll ours sampleRegistry b cs) fresh-bytes
+      ∙ replayed .same-store
+      ∙ ap (λ (clients : List Client). encodeStore (leftByAll clients fresh (keep isFitting cs))) sample-clients
 
-pub visit-typed : AllWellTyped visit
-unfolding AllWellTyped visit authorizeAt
-visit-typed = (lit< tt, tt)
+  claims : Demand3 ours sampleRegistry cs
+  claims = demand3 sampleRegistry sample-bytes cs typed
 
-night-typed : AllWellTyped night
-unfolding AllWellTyped night authorizeAt
-night-typed = (lit< tt, (tt, tt))
+  module _ (c : Call) (j : isJudged k c ≡ true) where
+    pub judged : Judged ours sampleRegistry cs c
+    unfolding isJudged
+    judged =
+        let new = distinct (twenties c ++ k .randoms) in
+        let rest = and-right (isTyped c) (isFitting c && new) j in
+        record {
+          fit =
+              ap (λ (b : List ℕ). ours sampleRegistry (storeAfterAll ours sampleRegistry b cs) c .unfit) fresh-bytes
+              ∙ replay-fit sampleRegistry sample-bytes sample-fit fresh cs (keep isFitting cs) replayed c
+              (tested-call c (and-left (isTyped c) (isFitting c && new) j)) (and-left (isFitting c) new rest);
+          once = rw contents-are (distinct-never _ (and-right (isFitting c) new rest));
+        }
 
--- the word of the answer to a call after some calls
-unfoldable pub wordAfter : List Call → Call → Decision
-wordAfter cs c = wordIn (answerTo sampleRegistry (storeAfterAll sampleRegistry freshStore cs) c)
+  -- ---- the clauses, by what the calls contain
 
-word-is : (cs : List Call) → AllWellTyped cs → every isFitting cs ≡ true → (clock : ℕ) → ltb latestTime clock ≡ false
-    → wordAfter cs (exchangeAt clock) ≡ wordOn cs (exchangeAt clock)
-unfolding wordAfter wordOn
-word-is cs typed past clock e = ap wordIn (answer-is cs typed past (exchangeAt clock) (exchange-past clock e))
+  module _ (h b : List ℕ) (handed : Handed) (a : isAsked (token h b handed) ≡ true) (j : isJudged k (token h b handed) ≡ true) where
+    abbrev asks : Call
+    asks = token h b handed
 
-pub at-1599 : wordAfter visit (exchangeAt 1599) ≡ Grant
-at-1599 = word-is visit visit-typed visit-past 1599 refl ∙ computed .in-time
+    abbrev isGrantType : Bool
+    isGrantType = isExchange b || isRefresh b
 
-pub at-1600 : wordAfter visit (exchangeAt 1600) ≡ Refuse (Token InvalidGrant)
-at-1600 = word-is visit visit-typed visit-past 1600 refl ∙ computed .too-late
+    pub well-asked : Asks ours sampleRegistry cs h b handed
+    unfolding isAsked
+    well-asked = record {
+      judged = judged asks j;
+      admitted =
+          ap (λ (clients : List Client). isAdmitted (readToken clients h b .request)) sample-clients
+          ∙ and-left (isAdmitted (readToken sampleClients h b .request)) isGrantType a;
+    }
 
-pub in-the-night : wordAfter night (exchangeAt 1100) ≡ Refuse (Token InvalidGrant)
-in-the-night = word-is night night-typed night-past 1100 refl ∙ computed .in-the-night
+    asked-refresh : isExchange b ≡ false → isRefresh b ≡ true
+    unfolding isAsked
+    asked-refresh e =
+        ap (λ (x : Bool). x || isRefresh b) (sym e) ∙ and-right (isAdmitted (readToken sampleClients h b .request)) isGrantType a
 
--- ---- by the theorem
+    pub by-exchanges : isExchange b ≡ true
+        → after asks .granted ≡ mayExchange sampleClients (max (handed .clock) (k .highest)) (k .standing) h b
+    by-exchanges e =
+        claims .exchanges h b handed well-asked e
+        ∙ ap (λ (c : Contents). mayExchange (clientsOf sampleRegistry) (max (handed .clock) (c .highest)) (c .standing) h b) contents-are
+        ∙ ap (λ (clients : List Client). mayExchange clients (max (handed .clock) (k .highest)) (k .standing) h b) sample-clients
 
--- random bytes of which no two are equal never come twice
-differ-none : (x : List ℕ) (xs : List (List ℕ)) → every (differ x) xs ≡ true → count (same x) xs ≡ 0
-unfolding every count
-differ-none x [] e = refl
-differ-none x (y ∷ ys) e =
-    let d = not-true (same x y) (and-left (differ x y) (every (differ x) ys) e) in
-    omega (arith, ap bit d, differ-none x ys (and-right (differ x y) (every (differ x) ys) e))
+    pub by-refreshes : isRefresh b ≡ true
+        → after asks .granted ≡ mayRefresh sampleClients (max (handed .clock) (k .highest)) (k .standing) h b
+    by-refreshes e =
+        claims .refreshes h b handed well-asked e
+        ∙ ap (λ (c : Contents). mayRefresh (clientsOf sampleRegistry) (max (handed .clock) (c .highest)) (c .standing) h b) contents-are
+        ∙ ap (λ (clients : List Client). mayRefresh clients (max (handed .clock) (k .highest)) (k .standing) h b) sample-clients
 
-distinct-never : (xs : List (List ℕ)) → distinct xs ≡ true → NeverTwice xs
-unfolding distinct count
-distinct-never [] e h = omega arith
-distinct-never (x ∷ xs) e h = by (same h x) refl (distinct-never xs (and-right (every (differ x) xs) (distinct xs) e) h)
-  where
-    by : (b : Bool) → same h x ≡ b → count (same h) xs ≤ 1 → bit b + count (same h) xs ≤ 1
-    by true q r =
-        let z = differ-none x xs (and-left (every (differ x) xs) (distinct xs) e) in
-        omega (arith, ap (λ (y : List ℕ). count (same y) xs) (same-eq h x q))
-    by false q r = omega arith
+    by-exchange-replies : isExchange b ≡ true → after asks .granted ≡ true
+        → let scope = originOf code (valueOf b (bytes "code")) (k .standing) .scope in
+        Answers handed (after asks) (tokenReply (firstTwenty (handed .random)) (refreshMember (lastTwenty (handed .random))) scope)
+    by-exchange-replies e granted =
+        let text : Contents → List ℕ = λ c.
+        tokenReply (firstTwenty (handed .random)) (refreshMember (lastTwenty (handed .random)))
+        (originOf code (valueOf b (bytes "code")) (c .standing) .scope)
+        in
+        subst (λ (c : Contents). Answers handed (after asks) (text c)) contents-are (claims .exchangeReplies h b handed well-asked e granted)
 
-pub visit-contents : withEvents (clientsOf sampleRegistry) nothingYet (events sampleRegistry freshStore visit) ≡ containedIn visit
-unfolding containedIn
-visit-contents =
-    ap (λ (es : List Event). withEvents (clientsOf sampleRegistry) nothingYet es) (events-are visit visit-typed visit-past)
-    ∙ ap (λ (clients : List Client). withEvents clients nothingYet (eventsOn sampleClients fresh visit)) sample-clients
+    by-refresh-replies : isRefresh b ≡ true → after asks .granted ≡ true
+        → let scope = originOf refresh (valueOf b (bytes "refresh_token")) (k .standing) .scope in
+        Answers handed (after asks) (tokenReply (firstTwenty (handed .random)) [] (askedOr (formValue b (bytes "scope")) scope))
+    by-refresh-replies e granted =
+        let scope : Contents → ℕ = λ c.
+        askedOr (formValue b (bytes "scope")) (originOf refresh (valueOf b (bytes "refresh_token")) (c .standing) .scope)
+        in
+        subst (λ (c : Contents). Answers handed (after asks) (tokenReply (firstTwenty (handed .random)) [] (scope c))) contents-are
+        (claims .refreshReplies h b handed well-asked e granted)
 
-pub sample-read : readToken (clientsOf sampleRegistry) header body ≡ record { request = Exchange asksTokens; presented = presented }
-sample-read = ap (λ (clients : List Client). readToken clients header body) sample-clients ∙ computed .read
+  pub by-passes : (presented : List ℕ) (clock : ℕ) → isJudged k (check presented clock) ≡ true
+      → after (check presented clock) .passed ≡ mayPass (max clock (k .highest)) (k .standing) presented
+  by-passes presented clock j =
+      claims .passes presented clock (judged (check presented clock) j)
+      ∙ ap (λ (c : Contents). mayPass (max clock (c .highest)) (c .standing) presented) contents-are
 
-module _ (clock : ℕ) (d : Decision) (word : wordAfter visit (exchangeAt clock) ≡ d) (fit : isUnfitDecision d ≡ false) where
-  pub judged : Judged sampleRegistry visit (exchangeAt clock)
-  unfolding wordAfter wordIn exchangeAt tokenAt handedAt outcomeOf isUnfit twenties
-  judged = (ap isUnfitDecision word ∙ fit, rw visit-contents (distinct-never _ (computed .randoms)))
+  by-names : (presented : List ℕ) (clock : ℕ) → isJudged k (check presented clock) ≡ true → (e : Issue) → List·Memᴰ e (k .standing)
+      → isLiveAt (max clock (k .highest)) e ≡ true → (isA access e && isOf presented e) ≡ true
+      → after (check presented clock) .named
+      ≡ record { client = e .client; farm = e .farm; scope = e .scope; left = e .expiry - max clock (k .highest) }
+  by-names presented clock j e =
+      subst
+      (λ (c : Contents). List·Memᴰ e (c .standing) → isLiveAt (max clock (c .highest)) e ≡ true → (isA access e && isOf presented e) ≡ true
+      → after (check presented clock) .named
+      ≡ record { client = e .client; farm = e .farm; scope = e .scope; left = e .expiry - max clock (c .highest) })
+      contents-are (claims .names presented clock (judged (check presented clock) j) e)
 
-  by-demand3 : isGranted (answerTo sampleRegistry (storeAfterAll sampleRegistry freshStore visit) (exchangeAt clock))
-      ≡ mayExchange (max clock 1000) (codeAt 1000 0 ∷ []) presented asksTokens
-  unfolding exchangeAt tokenAt handedAt
-  by-demand3 =
-      demand3 sampleRegistry sample-bytes visit visit-typed .exchanges header body (handedAt clock 40 0x20) presented asksTokens
-      (record { judged = judged; reads = sample-read })
-      ∙ ap (λ (c : Contents). mayExchange (max clock (c .highest)) (c .standing) presented asksTokens) (visit-contents ∙ computed .visit-contains)
+  by-locates : (query : List ℕ) (decision farm : ℕ) (handed : Handed) → let c = authorization query decision farm handed in
+      isJudged k c ≡ true → after c .granted ≡ true
+      → let client = clientAt sampleClients (numberOf (valueOf query (bytes "client_id")) sampleClients) in
+      Answers handed (after c) (location (client .redirect) (codeParameter (firstTwenty (handed .random))) (formValue query (bytes "state")))
+  by-locates query decision farm handed j granted =
+      rw (← sample-clients) (claims .locates query decision farm handed (judged (authorization query decision farm handed) j) granted)
 
-pub yields-1599 : isGranted (answerTo sampleRegistry (storeAfterAll sampleRegistry freshStore visit) (exchangeAt 1599)) ≡ true
-unfolding isUnfitDecision
-yields-1599 = by-demand3 1599 Grant at-1599 refl ∙ computed .may-1599
+  by-spends-nothing : (c : Call) → after c .granted ≡ false
+      → (i : ℕ) → i < 512 → part (after c .store) (8 + i * 35) 35 ≡ part (encodeStore (leftIn cs)) (8 + i * 35) 35
+  by-spends-nothing c refused i below =
+      claims .spendsNothing c refused i below ∙ ap (λ (b : List ℕ). part b (8 + i * 35) 35) store-is
 
-pub fails-1600 : isGranted (answerTo sampleRegistry (storeAfterAll sampleRegistry freshStore visit) (exchangeAt 1600)) ≡ false
-unfolding isUnfitDecision isUnfitRefusal
-fails-1600 = by-demand3 1600 (Refuse (Token InvalidGrant)) at-1600 refl ∙ computed .not-1600
+  -- what the server does is what the claim asks
+  pub claimed : (c : Call) → isAsked c ≡ true → isJudged k c ≡ true → yields c (after c) ≡ may k c
+  unfolding isAsked yields may
+  claimed (authorization query decision farm handed) a j = absurd (false≢true a)
+  claimed (token h b handed) a j = by (isExchange b) refl
+    where
+      by : (x : Bool) → isExchange b ≡ x
+          → let t = max (handed .clock) (k .highest) in
+          after (token h b handed) .granted ≡ cond x (mayExchange sampleClients t (k .standing) h b) (mayRefresh sampleClients t (k .standing) h b)
+      by true e = by-exchanges h b handed a j e
+      by false e = by-refreshes h b handed a j (asked-refresh h b handed a j e)
+  claimed (check presented clock) a j = by-passes presented clock j
+
+-- ---- every case of Examples
+
+every-member : {A : Type 0} (p : A → Bool) {x : A} {xs : List A} → List·Memᴰ x xs → every p xs ≡ true → p x ≡ true
+unfolding every
+every-member p (List·Memᴰ·head {x = y} {xs = ys} q) e = ap p q ∙ and-left (p y) (every p ys) e
+every-member p (List·Memᴰ·tail {x = y} {xs = ys} m) e = every-member p m (and-right (p y) (every p ys) e)
+
+-- the server yields or lets pass where the paper says so, and nowhere else
+pub decided : (l : Cases) → List·Memᴰ l cases → (k : Case) → List·Memᴰ k (l .judged)
+    → yields (k .call) (next ours sampleRegistry (l .calls) (k .call)) ≡ k .paper
+unfolding agrees agreesOn claimAgrees
+decided l in-cases k in-judged =
+    let cs = l .calls in
+    let c = k .call in
+    let all = every (agreesOn (leftIn cs) (containedIn cs)) (l .judged) in
+    let both = every-member agrees in-cases (computed .cases-agree) in
+    let one = every-member (agreesOn (leftIn cs) (containedIn cs)) in-judged (and-left all (every isTyped cs) both) in
+    let said = Bool·beq (may (containedIn cs) c) (k .paper) in
+    let claim = and-left (claimAgrees (containedIn cs) k) _ one in
+    let rest = and-right (isAsked c) (isJudged (containedIn cs) c && said) claim in
+    let run : Run = record { calls = cs; typed = and-right all (every isTyped cs) both; contents = containedIn cs; contains = refl } in
+    claimed run c
+    (and-left (isAsked c) (isJudged (containedIn cs) c && said) claim) (and-left (isJudged (containedIn cs) c) said rest)
+    ∙ of-T-equal (may (containedIn cs) c) (k .paper) (to-T (and-right (isJudged (containedIn cs) c) said rest))
+
+-- ---- what is named and written, and a refused try, after calls of every kind
+
+-- the answer is what is written up to its length
+abbrev pub textIn : Result → List ℕ
+textIn r = take (r .length) (r .output)
+
+answers-text : {handed : Handed} {r : Result} {text : List ℕ} → Answers handed r text → textIn r ≡ take (length text) (sets (handed .output) 0 text)
+answers-text a = ap₂ (λ (n : ℕ) (l : List ℕ). take n l) (a .ends) (a .written)
+
+abbrev afterDay : Call → Result
+afterDay c = next ours sampleRegistry day c
+
+-- the exchange of the visit's code at a clock: it is judged, and the claim says whether it yields
+pub record ExchangeAt (clock : ℕ) (paper : Bool) : Type 0 where
+  pub exchange : isExchange (repeating codeText) ≡ true
+  pub asked : isAsked (exchangeAt clock) ≡ true
+  pub judged : isJudged inVisit (exchangeAt clock) ≡ true
+  pub says : mayExchange sampleClients (max clock (inVisit .highest)) (inVisit .standing) header (repeating codeText) ≡ paper
+
+pub record Shown : Type 0 where
+  -- "The code is live at 1599, not at 1600."
+  pub in-time : ExchangeAt 1599 true
+  pub too-late : ExchangeAt 1600 false
+  pub named : next ours sampleRegistry evening (check barnAccess 2000) .named ≡ record { client = 1; farm = 9; scope = 1; left = 3110 }
+  pub named-less : afterDay (check againText 1510) .named ≡ record { client = 0; farm = 7; scope = 9; left = 3592 }
+  -- "the whole reply, no line end"
+  pub exchange-reply : textIn (next ours sampleRegistry visit (exchangeAt 1599))
+      ≡ bytes "{\"access_token\":\"202122232425262728292a2b2c2d2e2f30313233\",\"token_type\":\"Bearer\",\"expires_in\":3600,"
+      ++ bytes "\"refresh_token\":\"3435363738393a3b3c3d3e3f4041424344454647\",\"scope\":\"power peak bill\"}"
+  pub exchange-reply-less : textIn (afterDay (asking header (repeating lessText) 1510))
+      ≡ bytes "{\"access_token\":\"c0c1c2c3c4c5c6c7c8c9cacbcccdcecfd0d1d2d3\",\"token_type\":\"Bearer\",\"expires_in\":3600,"
+      ++ bytes "\"refresh_token\":\"d4d5d6d7d8d9dadbdcdddedfe0e1e2e3e4e5e6e7\",\"scope\":\"peak bill\"}"
+  -- "A refresh reply is the same without its refresh_token member.", with the scope granted, or the one asked
+  pub refresh-reply : textIn (afterDay (asking header (refreshFor refreshText []) 1510))
+      ≡ bytes "{\"access_token\":\"c0c1c2c3c4c5c6c7c8c9cacbcccdcecfd0d1d2d3\",\"token_type\":\"Bearer\",\"expires_in\":3600,"
+      ++ bytes "\"scope\":\"power peak bill\"}"
+  pub refresh-reply-less : textIn (afterDay (asking header (refreshFor refreshText (bytes "&scope=bill+peak")) 1510))
+      ≡ bytes "{\"access_token\":\"c0c1c2c3c4c5c6c7c8c9cacbcccdcecfd0d1d2d3\",\"token_type\":\"Bearer\",\"expires_in\":3600,"
+      ++ bytes "\"scope\":\"peak bill\"}"
+  pub located : textIn (afterDay (authorizeAt 1510 0xC0))
+      ≡ bytes "https://client.example.com/cb?code=c0c1c2c3c4c5c6c7c8c9cacbcccdcecfd0d1d2d3&state=xyz"
+  pub located-barn : textIn (afterDay (authorization barnQuery 1 9 (handedAt 1510 20 0xC0)))
+      ≡ bytes "https://barn.example/r?x=1&code=c0c1c2c3c4c5c6c7c8c9cacbcccdcecfd0d1d2d3"
+  -- a try without the redirect_uri is refused, and the code's slot, bound, for client 0, farm 7, scopes 10 and until 2106, keeps its bytes
+  pub kept : (i : ℕ) → i < 512
+      → part (afterDay (asking header (exchangeOf lessText) 1510) .store) (8 + i * 35) 35 ≡ part (encodeStore (leftIn day)) (8 + i * 35) 35
+  pub kept-code : part (afterDay (asking header (exchangeOf lessText) 1510) .store) (8 + 4 * 35) 35
+      ≡ 2 ∷ countUp 20 3 ++ 0 ∷ 0 ∷ 0 ∷ 0 ∷ 7 ∷ 10 ∷ 0 ∷ 0 ∷ 0 ∷ 0 ∷ 0 ∷ 0 ∷ 8 ∷ 58 ∷ []
+
+unfoldable pub theVisit : Run
+theVisit = record { calls = visit; typed = computed .visit-typed; contents = inVisit; contains = computed .visit-contains }
+
+pub theDay : Run
+theDay = record { calls = day; typed = computed .day-typed; contents = inDay; contains = computed .day-contains }
+
+pub theEvening : Run
+theEvening = record { calls = evening; typed = computed .evening-typed; contents = inEvening; contains = computed .evening-contains }
+
+pub shown : Shown
+unfolding theVisit theDay theEvening inVisit barnText redirect codeUntil tokenUntil barnCode inDay barnBody barnToken barnAccess inEvening isTyped isAsked isJudged handedAt authorizeAt header exchangeOf repeating tokenAt codeText accessText refreshText exchangeAt refreshFor barnQuery againText lessText rfcQuery handedTo unfitTo isFitting noIssue noneBeyond isWithinGranted namesOr askedOr twenties idIn isAdmitted isRepeatedBy mayExchange mayRefresh distinct count any firstOr every same indexOf splitOn grow hexText hexDigit hexValue isBase64 base64Bytes groupBytes soundGroup sextet none decodeAfter firstByte extra isEscape plain wellFormed sound encode encodeByte isWellFormedForm pieceName pieceValue gives add valueIn formValue names bitFrom bitOf union readScope chosen spaced scopeText indexWhere sampleClients sampleConfidential samplePublic isMissing isRepeated onlyValue isOnce askedBy scopeAsked isSoundState separator stateText location codeParameter isInvalidForm lowerCase sameAnyCase credentials isBadHeader headerId headerSecret presentedId presentedSecret isUnclearId isImpostor callClient isInvalidClient formReasons readExchange readRefresh readGrant readToken tokenReply refreshMember firstOf unlessRefused
+shown = record {
+  in-time = record { exchange = refl; asked = refl; judged = refl; says = refl };
+  too-late = record { exchange = refl; asked = refl; judged = refl; says = refl };
+  named =
+      by-names theEvening barnAccess 2000 refl (barnToken access barnAccess 5110)
+      (List·Memᴰ·tail (List·Memᴰ·head refl)) refl refl;
+  named-less =
+      by-names theDay againText 1510 refl (tokenUntil access againText 9 5102)
+      (List·Memᴰ·tail (List·Memᴰ·tail (List·Memᴰ·head refl))) refl refl;
+  exchange-reply =
+      answers-text
+      (by-exchange-replies theVisit header (repeating codeText) (handedAt 1599 40 0x20) refl refl refl
+      (by-exchanges theVisit header (repeating codeText) (handedAt 1599 40 0x20) refl refl refl));
+  exchange-reply-less =
+      let b = repeating lessText in
+      let handed = handedAt 1510 40 0xC0 in
+      answers-text
+      (by-exchange-replies theDay header b handed refl refl refl
+      (by-exchanges theDay header b handed refl refl refl));
+  refresh-reply =
+      let b = refreshFor refreshText [] in
+      let handed = handedAt 1510 40 0xC0 in
+      answers-text
+      (by-refresh-replies theDay header b handed refl refl refl
+      (by-refreshes theDay header b handed refl refl refl));
+  refresh-reply-less =
+      let b = refreshFor refreshText (bytes "&scope=bill+peak") in
+      let handed = handedAt 1510 40 0xC0 in
+      answers-text
+      (by-refresh-replies theDay header b handed refl refl refl
+      (by-refreshes theDay header b handed refl refl refl));
+  located =
+      answers-text
+      (by-locates theDay rfcQuery 1 7 (handedAt 1510 20 0xC0) refl
+      (ap (λ (r : Result). r .granted) (result-is theDay (authorizeAt 1510 0xC0) refl) ∙ computed .code-granted));
+  located-barn =
+      let handed = handedAt 1510 20 0xC0 in
+      answers-text
+      (by-locates theDay barnQuery 1 9 handed refl
+      (ap (λ (r : Result). r .granted) (result-is theDay (authorization barnQuery 1 9 handed) refl) ∙ computed .barn-granted));
+  kept =
+      by-spends-nothing theDay (asking header (exchangeOf lessText) 1510)
+      (by-exchanges theDay header (exchangeOf lessText) (handedAt 1510 40 0xC0) refl refl refl);
+  kept-code =
+      by-spends-nothing theDay (asking header (exchangeOf lessText) 1510)
+      (by-exchanges theDay header (exchangeOf lessText) (handedAt 1510 40 0xC0) refl refl refl) 4 (lit< tt) ∙ computed .code-kept;
+}

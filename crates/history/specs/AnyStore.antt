@@ -29,8 +29,8 @@ use Rattle.protocol.specs.Answers.{inputNumber, refusalStatus}
 use Rattle.protocol.specs.Authorization.{queryClient, locationText}
 use Rattle.protocol.specs.Token.{refusalReply, challenges}
 use Rattle.protocol.specs.Outcomes.{Handed, Outcome}
-use Rattle.history.specs.Calls.{Call, authorization, token, check, handedTo, Answer, authorizationAnswer, tokenAnswer, checkAnswer, outcomeOf, isUnfit}
-use Rattle.history.specs.Contents.{isGranted}
+use Rattle.history.specs.Calls.{Call, authorization, token, check, handedTo}
+use Rattle.history.specs.Server.{Answer, authorizationAnswer, tokenAnswer, checkAnswer, outcomeOf, isUnfit, isGranted, lengthOf}
 
 -- ---- unfit inputs: refusals 1 to 4
 
@@ -93,12 +93,6 @@ refusalAnswer (token header body handed) r long =
 refusalAnswer (check presented clock) r long = checkAnswer (Refused r)
 
 -- ---- what any answer leaves
-
--- how much of the output is written; the check is handed none
-unfoldable pub lengthOf : Answer → ℕ
-lengthOf (authorizationAnswer a) = a .length
-lengthOf (tokenAnswer a) = a .length
-lengthOf (checkAnswer a) = 0
 
 -- a store with this clock seen, if it is the highest: the first eight bytes hold the highest, and no other byte changes
 abbrev pub withClock : ℕ → List ℕ → List ℕ

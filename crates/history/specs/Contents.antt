@@ -1,30 +1,23 @@
 -- What a list of calls contains. "What the calls contain is read from their arguments and answers, never from the ledger."
 --
--- These definitions are the claim's own. They share with the server how a query or a body is read (`readAuthorization`,
--- `readToken`, which demand 2 fixes) and nothing of how it keeps or judges what it issued, not even the tests of a scope.
+-- These definitions are the claim's own: they take the texts of a query, a header, a body and an answer, and share with the
+-- server only how a form, a scope value, base64 and a registry are read.
 use Prim.Native.Nat.{ℕ, _+_, _≤_, max}
 use mathlib.Core.Bool.{Bool, true, false, cond, not, _&&_, _||_}
 use mathlib.Core.List.{List, [], _∷_, _++_}
-use lib.Dec.{ltb, eqb}
-use lib.ListN.{take, drop}
-use Rattle.octets.specs.Lists.{every, same}
-use Rattle.encoding.specs.declared.HandleText.{HandleText}
-use Rattle.scope.specs.Set.{has}
-use Rattle.client_registry.specs.Registry.{Client}
+use lib.Dec.{ltb}
+use lib.ListN.{length, take, drop}
+use Rattle.octets.specs.Text.{bytes}
+use Rattle.octets.specs.Lists.{part, every, same}
 use Rattle.octets.specs.Search.{count, firstOr, keep}
-use Rattle.protocol.specs.declared.PageCause.the-variants.{Query}
-use Rattle.protocol.specs.declared.Refusal.the-variants.{ErrorPage}
-use Rattle.protocol.specs.declared.ScopeAsked.{ScopeAsked}
-use Rattle.protocol.specs.declared.ScopeAsked.the-variants.{Everything, Only, Unreadable}
-use Rattle.protocol.specs.declared.CodeRequest.{CodeRequest}
-use Rattle.protocol.specs.declared.Request.{Request}
-use Rattle.protocol.specs.declared.Request.the-variants.{Refused, Code, Exchange, Refresh}
-use Rattle.protocol.specs.declared.Reading.{Reading}
-use Rattle.protocol.specs.Answers.{isGrant, statusOf}
-use Rattle.protocol.specs.Requests.{refusedReading}
-use Rattle.protocol.specs.Authorization.{readAuthorization}
-use Rattle.protocol.specs.Token.{readToken}
-use Rattle.history.specs.Calls.{Call, authorization, token, check, handedTo, Answer, authorizationAnswer, tokenAnswer, checkAnswer, isUnfit, Event}
+use Rattle.form.specs.Content.{Value, missing, once, repeated, formValue, onlyValue, isOnce}
+use Rattle.scope.specs.Set.{has}
+use Rattle.scope.specs.Value.{readScope}
+use Rattle.scope.specs.declared.ScopeValue.{ScopeValue}
+use Rattle.scope.specs.declared.ScopeValue.the-variants.{Names, Invalid}
+use Rattle.client_registry.specs.Registry.{Client}
+use Rattle.client_registry.specs.Lookup.{numberOf, clientAt}
+use Rattle.history.specs.Calls.{Call, authorization, token, check, handedTo, Result, Event}
 
 -- ---- issues
 
@@ -34,12 +27,13 @@ pub data Sort : Type 0 where
 -- what a call issued, and until when it is live
 pub record Issue : Type 0 where
   pub sort : Sort
-  pub handle : List ℕ
+  -- as it stands in the answer that issued it
+  pub text : List ℕ
   pub client : ℕ
   pub farm : ℕ
   pub scope : ℕ
-  -- of a code: a redirect address was given, and must be repeated
-  pub bound : Bool
+  -- of a code: the redirect address that was given, if any, which must be repeated
+  pub address : Value
   pub expiry : ℕ
 
 abbrev pub isA : Sort → Issue → Bool
@@ -51,9 +45,9 @@ isA refresh e = elim (e .sort) [ code ↦ false | access ↦ false | refresh ↦
 abbrev pub isLiveAt : ℕ → Issue → Bool
 isLiveAt t e = ltb t (e .expiry)
 
--- the issue has the handle that was presented
-abbrev pub isOf : HandleText → Issue → Bool
-isOf presented e = presented .valid && same (presented .bytes) (e .handle)
+-- it is the issue of this text
+abbrev pub isOf : List ℕ → Issue → Bool
+isOf presented e = same presented (e .text)
 
 -- "Expiry is T plus 600 (code), 3,600 (access), 2,592,000 (refresh)."
 abbrev pub lifetime : Sort → ℕ
@@ -61,99 +55,125 @@ lifetime code = 600
 lifetime access = 3600
 lifetime refresh = 2592000
 
-abbrev pub codeIssue : ℕ → List ℕ → CodeRequest → Issue
-codeIssue t handle r = record {
-  sort = code;
-  handle = handle;
-  client = r .client;
-  farm = r .farm;
-  scope = r .scope;
-  bound = r .bound;
-  expiry = t + lifetime code;
-}
+-- what stands where there is no issue: it is never live
+unfoldable pub noIssue : Issue
+noIssue = record { sort = code; text = []; client = 0; farm = 0; scope = 0; address = missing; expiry = 0 }
+
+-- the issue of this sort and text among those that stand
+abbrev pub originOf : Sort → List ℕ → List Issue → Issue
+originOf sort presented standing = firstOr noIssue (λ e. isA sort e && isOf presented e) standing
+
+-- ---- what a form asks for
+
+abbrev pub valueOf : List ℕ → List ℕ → List ℕ
+valueOf form name = onlyValue (formValue form name)
+
+abbrev pub isExchange : List ℕ → Bool
+isExchange body = isOnce (bytes "authorization_code") (formValue body (bytes "grant_type"))
+
+abbrev pub isRefresh : List ℕ → Bool
+isRefresh body = isOnce (bytes "refresh_token") (formValue body (bytes "grant_type"))
+
+unfoldable pub noneBeyond : ScopeValue → ℕ → Bool
+noneBeyond (Names asked) granted = every (λ k. not (has (asked .bits) k) || has granted k) (0 ∷ 1 ∷ 2 ∷ 3 ∷ 4 ∷ 5 ∷ 6 ∷ 7 ∷ [])
+noneBeyond Invalid granted = false
+
+-- "Scope is within the granted one when none is asked, or a scope value with no name beyond it."
+unfoldable pub isWithinGranted : Value → ℕ → Bool
+isWithinGranted missing granted = true
+isWithinGranted (once v) granted = noneBeyond (readScope v) granted
+isWithinGranted repeated granted = false
+
+unfoldable pub namesOr : ScopeValue → ℕ → ℕ
+namesOr (Names asked) granted = asked .bits
+namesOr Invalid granted = granted
+
+-- "with the asked scope, or the granted one"
+unfoldable pub askedOr : Value → ℕ → ℕ
+askedOr missing granted = granted
+askedOr (once v) granted = namesOr (readScope v) granted
+askedOr repeated granted = granted
+
+-- ---- codes and tokens in answers
+
+-- a code or token is 40 characters
+abbrev pub fortyAt : ℕ → Result → List ℕ
+fortyAt at r = part (take (r .length) (r .output)) at 40
+
+-- behind the registered redirect, `?` or `&`, and `code=`
+abbrev pub codeIn : Client → Result → List ℕ
+codeIn client r = fortyAt (length (client .redirect) + 1 + length (bytes "code=")) r
+
+abbrev pub accessIn : Result → List ℕ
+accessIn r = fortyAt (length (bytes "{\"access_token\":\"")) r
+
+-- behind the access token
+abbrev pub refreshIn : Result → List ℕ
+refreshIn r =
+    fortyAt (length (bytes "{\"access_token\":\"") + 40 + length (bytes "\",\"token_type\":\"Bearer\",\"expires_in\":3600,\"refresh_token\":\"")) r
+
+-- ---- what one call that was granted adds and ends: "its client, farm and scope come from that call's arguments and the issue
+-- of the code or refresh token presented"
+
+unfoldable pub codeIssue : List Client → ℕ → List ℕ → ℕ → Result → Issue
+codeIssue clients t query farm r =
+    let number = numberOf (valueOf query (bytes "client_id")) clients in
+    let client = clientAt clients number in
+    record {
+      sort = code;
+      text = codeIn client r;
+      client = number;
+      farm = farm;
+      scope = askedOr (formValue query (bytes "scope")) (client .scope);
+      address = formValue query (bytes "redirect_uri");
+      expiry = t + lifetime code;
+    }
 
 -- a token of a sort, on the code or refresh token `origin`
 abbrev pub tokenIssue : Sort → ℕ → List ℕ → Issue → ℕ → Issue
-tokenIssue sort t handle origin scope = record {
+tokenIssue sort t text origin scope = record {
   sort = sort;
-  handle = handle;
+  text = text;
   client = origin .client;
   farm = origin .farm;
   scope = scope;
-  bound = false;
+  address = missing;
   expiry = t + lifetime sort;
 }
 
--- what stands where there is no issue: it is never live
-unfoldable pub noIssue : Issue
-noIssue = record { sort = code; handle = []; client = 0; farm = 0; scope = 0; bound = false; expiry = 0 }
+module _ (t : ℕ) (standing : List Issue) (body : List ℕ) (r : Result) where
+  unfoldable pub exchangeIssues : List Issue
+  exchangeIssues =
+      let o = originOf code (valueOf body (bytes "code")) standing in
+      tokenIssue refresh t (refreshIn r) o (o .scope) ∷ tokenIssue access t (accessIn r) o (o .scope) ∷ []
 
--- ---- the scope that a refresh asks for
+  unfoldable pub refreshIssues : List Issue
+  refreshIssues =
+      let o = originOf refresh (valueOf body (bytes "refresh_token")) standing in
+      tokenIssue access t (accessIn r) o (askedOr (formValue body (bytes "scope")) (o .scope)) ∷ []
 
--- "Scope is within the granted one when none is asked, or a scope value with no name beyond it."
-unfoldable pub isWithinGranted : ScopeAsked → ℕ → Bool
-isWithinGranted Everything granted = true
-isWithinGranted (Only asked) granted = every (λ k. not (has asked k) || has granted k) (0 ∷ 1 ∷ 2 ∷ 3 ∷ 4 ∷ 5 ∷ 6 ∷ 7 ∷ [])
-isWithinGranted Unreadable granted = false
+-- "A call that answered with a code or token issued it"
+unfoldable pub issuedBy : List Client → ℕ → List Issue → Call → Result → List Issue
+issuedBy clients t standing (authorization query decision farm handed) r = codeIssue clients t query farm r ∷ []
+issuedBy clients t standing (token header body handed) r =
+    cond (isExchange body) (exchangeIssues t standing body r) (cond (isRefresh body) (refreshIssues t standing body r) [])
+issuedBy clients t standing (check presented clock) r = []
 
--- "with the asked scope, or the granted one"
-unfoldable pub askedOr : ScopeAsked → ℕ → ℕ
-askedOr Everything granted = granted
-askedOr (Only asked) granted = asked
-askedOr Unreadable granted = granted
+-- "A code is exchanged once an exchange of it has answered 200."
+unfoldable pub isEndedBy : Call → Issue → Bool
+isEndedBy (authorization query decision farm handed) e = false
+isEndedBy (token header body handed) e = isExchange body && (isA code e && isOf (valueOf body (bytes "code")) e)
+isEndedBy (check presented clock) e = false
 
--- ---- what one call adds and ends
+-- ---- what all calls contain
 
--- the first and the last twenty random bytes
+-- "(forty are two twenties)"
 abbrev pub firstTwenty : List ℕ → List ℕ
 firstTwenty random = take 20 random
 
 abbrev pub lastTwenty : List ℕ → List ℕ
 lastTwenty random = drop 20 random
 
--- the code or refresh token that a request presents, among what stands
-abbrev pub originOf : Sort → HandleText → List Issue → Issue
-originOf sort presented standing = firstOr noIssue (λ e. isA sort e && isOf presented e) standing
-
--- what a request that was granted issued: "its client, farm and scope come from that call's arguments and the issue of
--- the code or refresh token presented"
-unfoldable pub issuedBy : ℕ → List Issue → List ℕ → HandleText → Request → List Issue
-issuedBy t standing random presented (Refused refusal) = []
-issuedBy t standing random presented (Code r) = codeIssue t (firstTwenty random) r ∷ []
-issuedBy t standing random presented (Exchange r) =
-    let o = originOf code presented standing in
-    tokenIssue refresh t (lastTwenty random) o (o .scope) ∷ tokenIssue access t (firstTwenty random) o (o .scope) ∷ []
-issuedBy t standing random presented (Refresh r) =
-    let o = originOf refresh presented standing in tokenIssue access t (firstTwenty random) o (askedOr (r .scope) (o .scope)) ∷ []
-
--- what it ended: "A code is exchanged once an exchange of it has answered 200."
-unfoldable pub isEndedBy : HandleText → Request → Issue → Bool
-isEndedBy presented (Refused refusal) e = false
-isEndedBy presented (Code r) e = false
-isEndedBy presented (Exchange r) e = isA code e && isOf presented e
-isEndedBy presented (Refresh r) e = false
-
--- what stands after a request that was granted
-unfoldable pub afterGrant : ℕ → List Issue → List ℕ → Reading → List Issue
-afterGrant t standing random reading =
-    issuedBy t standing random (reading .presented) (reading .request)
-    ++ keep (λ e. not (isEndedBy (reading .presented) (reading .request) e)) standing
-
--- what a call asked, read from its arguments; a check asks for nothing that could be granted
-unfoldable pub asked : List Client → Call → Reading
-asked clients (authorization query decision farm handed) = readAuthorization clients query decision farm
-asked clients (token header body handed) = readToken clients header body
-asked clients (check presented clock) = refusedReading (ErrorPage Query)
-
--- "A call that answered with a code or token issued it": a redirect with a code, or status 200
-unfoldable pub isGranted : Answer → Bool
-isGranted (authorizationAnswer a) = isGrant (a .decision)
-isGranted (tokenAnswer a) = eqb (statusOf (a .decision)) 200
-isGranted (checkAnswer a) = false
-
--- ---- what all calls contain
-
--- "(forty are two twenties)"
 unfoldable pub twenties : Call → List (List ℕ)
 twenties (authorization query decision farm handed) = handed .random ∷ []
 twenties (token header body handed) = firstTwenty (handed .random) ∷ lastTwenty (handed .random) ∷ []
@@ -169,13 +189,17 @@ pub record Contents : Type 0 where
 abbrev pub nothingYet : Contents
 nothingYet = record { highest = 0; standing = []; randoms = [] }
 
+-- what stands after a call at the time t
+unfoldable pub standingAfter : List Client → ℕ → List Issue → Call → Result → List Issue
+standingAfter clients t standing c r =
+    cond (r .granted) (issuedBy clients t standing c r ++ keep (λ e. not (isEndedBy c e)) standing) standing
+
 -- one event more: "Calls refused with 1 to 4 are neither judged nor seen, and their random bytes don't count."
 unfoldable pub withEvent : List Client → Event → Contents → Contents
 withEvent clients e c =
-    let handed = handedTo (e .call) in
-    let t = max (handed .clock) (c .highest) in
-    let next = cond (isGranted (e .answer)) (afterGrant t (c .standing) (handed .random) (asked clients (e .call))) (c .standing) in
-    cond (isUnfit (e .answer)) c (record { highest = t; standing = next; randoms = twenties (e .call) ++ c .randoms })
+    let t = max (handedTo (e .call) .clock) (c .highest) in
+    let standing = standingAfter clients t (c .standing) (e .call) (e .result) in
+    cond (e .result .unfit) c (record { highest = t; standing = standing; randoms = twenties (e .call) ++ c .randoms })
 
 unfoldable pub withEvents : List Client → Contents → List Event → Contents
 withEvents clients c [] = c

@@ -39,7 +39,7 @@ use Rattle.protocol.specs.Refusals.{Reason, when, firstOf}
 use Rattle.protocol.specs.Granting.{Plan, refusedPlan, codePlan, exchangePlan, refreshPlan, planFor, planOf, decisionOn, shownSlot, liveToken, checkSlots}
 use Rattle.protocol.specs.Outcomes.{Handed, clockAlone, Endpoint, unfitReasons, admit, outcomeBy, outcome, serveAuthorization, serveToken, serveCheck, authorizationOutcome, tokenOutcome, checkOutcome, authorizationEndpoint, tokenEndpoint, checkEndpoint}
 use Rattle.protocol.proofs.Reasons.{decided}
-use Rattle.history.specs.Calls.{isUnfitRefusal}
+use Rattle.history.specs.Server.{isUnfitRefusal}
 use Rattle.host_history.specs.Cases.{ofAuthorization, ofToken, ofCheck}
 
 -- ---- any endpoint

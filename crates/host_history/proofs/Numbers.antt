@@ -27,9 +27,8 @@ use Rattle.protocol.specs.declared.CheckAnswer.the-variants.{Refused, NotLive, 
 use Rattle.protocol.specs.Answers.{wordNumber, wordStatus, inputNumber, pageNumber, refusalNumber, statusOf, isGrant}
 use Rattle.protocol.specs.Outcomes.{authorizationOutcome, tokenOutcome, checkOutcome}
 use Rattle.authorization_server.specs.Numbers.{decisionNumber, decisionError, checkReply}
-use Rattle.history.specs.Calls.{isUnfitRefusal, isUnfitDecision, isUnfitCheck}
-use Rattle.history.specs.Claim.{isLiveCheck}
-use Rattle.host_history.specs.Claim.{isOneToFour}
+use Rattle.history.specs.Server.{isUnfitRefusal, isUnfitDecision, isUnfitCheck, isLiveCheck}
+use Rattle.host_history.specs.Exports.{isOneToFour}
 use Rattle.host_history.specs.Cases.{ofAuthorization, NothingElse}
 use Rattle.host_history.proofs.Endpoints.{authorization-decides, token-decides, check-decides}
 

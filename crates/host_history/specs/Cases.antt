@@ -1,7 +1,7 @@
 -- What the numbers mean: which answers an endpoint can give, whatever it is handed, and that their numbers tell them apart. Nothing
 -- else than a grant has the numbers of a grant, and nothing else than refusals 1 to 4 has theirs.
 --
--- The claim (Claim) speaks of numbers alone and can be read without this. Proved in proofs/ (`nothing-else`).
+-- The claim over the exports speaks of numbers alone and can be read without this. Proved in proofs/ (`nothing-else`).
 use Prim.Native.Nat.{ℕ}
 use mathlib.Core.Path.{_≡_}
 use mathlib.Core.Bool.{Bool, true, false, not, _&&_}
@@ -15,9 +15,8 @@ use Rattle.protocol.specs.declared.CheckAnswer.the-variants.{Refused, NotLive, 
 use Rattle.protocol.specs.Answers.{refusalNumber, isGrant}
 use Rattle.protocol.specs.Outcomes.{Handed, authorizationOutcome, tokenOutcome, checkOutcome}
 use Rattle.authorization_server.specs.Numbers.{decisionNumber, authorizationReply, tokenReply, checkReply}
-use Rattle.history.specs.Calls.{isUnfitRefusal, isUnfitDecision, isUnfitCheck}
-use Rattle.history.specs.Claim.{isLiveCheck}
-use Rattle.host_history.specs.Claim.{isOneToFour}
+use Rattle.history.specs.Server.{isUnfitRefusal, isUnfitDecision, isUnfitCheck, isLiveCheck}
+use Rattle.host_history.specs.Exports.{isOneToFour}
 
 -- "page", and "Authorization then redirects with an error word"
 unfoldable pub ofAuthorization : Decision → Bool

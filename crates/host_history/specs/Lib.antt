@@ -1,7 +1,5 @@
--- host_history: demand 3 over the exports, in the numbers and bytes that a C host sees.
+-- host_history: demand 3 over the exports, in the numbers and bytes that a C host sees: `Demand3 exports` (crate history has the claim).
 --
--- Transcript: calls at the exports with all that came of them. Claim: what such calls contain, read from their arguments and numbers,
--- and demand 3 about them. Cases: that the numbers mean what the claim takes them for.
-pub mod Transcript
-pub mod Claim
+-- Exports: the exports as a server. Cases: that the numbers mean what they are taken for.
+pub mod Exports
 pub mod Cases

@@ -1,12 +1,14 @@
 // host_history: demand 3 over the exports, as a C host sees them (specs/, proofs/).
 //
-// Each function here does no more than call an export. Its contract is a step of a transcript (specs/Transcript.antt): so what a
-// transcript asks of a call is what the export's own contract gives.
+// Each function here does no more than call an export. Its contract says that the call is one that demand 3 speaks of, by the types
+// of its arguments, and that what the export leaves is what comes of it at the server `exports` (specs/Exports.antt): so the claim
+// about that server is one about the exports.
 use authorization_server::AuthorizationReply;
 use authorization_server::CheckReply;
 use authorization_server::TokenReply;
 ghost use mathlib.Core.List.{[]};
-ghost use Rattle.host_history.specs.Transcript.{authorize as authorizeSeen, token as tokenSeen, check as checkSeen, Step};
+ghost use Rattle.history.specs.Calls.{authorization as authorizationCall, token as tokenCall, check as checkCall};
+ghost use Rattle.host_history.specs.Exports.{authorizationSeen, tokenSeen, checkSeen, Leaves};
 
 fn authorize(
     query: &[u8],
@@ -18,10 +20,10 @@ fn authorize(
     random: &[u8],
     output: &mut [u8],
 ) -> AuthorizationReply
-    ensures { λ r. ⌜ Step (now (registry .entry)) (now (store .entry))
-        (authorizeSeen (now (query .entry)) decision farm
-        (record { clock = clock; random = now (random .entry); output = now (output .entry) })
-        (record { answer = r; output = now (output .exit); store = now (store .exit) })) ⌝ }
+    ensures { λ r. ⌜ Leaves (now (registry .entry)) (now (store .entry))
+        (authorizationCall (now (query .entry)) decision farm
+        (record { clock = clock; random = now (random .entry); output = now (output .entry) }))
+        (authorizationSeen (record { answer = r; output = now (output .exit); store = now (store .exit) })) ⌝ }
 {
     authorization_server::poplarchime_authorize(
         query,
@@ -44,17 +46,17 @@ fn token(
     random: &[u8],
     output: &mut [u8],
 ) -> TokenReply
-    ensures { λ r. ⌜ Step (now (registry .entry)) (now (store .entry))
-        (tokenSeen (now (header .entry)) (now (body .entry))
-        (record { clock = clock; random = now (random .entry); output = now (output .entry) })
-        (record { answer = r; output = now (output .exit); store = now (store .exit) })) ⌝ }
+    ensures { λ r. ⌜ Leaves (now (registry .entry)) (now (store .entry))
+        (tokenCall (now (header .entry)) (now (body .entry))
+        (record { clock = clock; random = now (random .entry); output = now (output .entry) }))
+        (tokenSeen (record { answer = r; output = now (output .exit); store = now (store .exit) })) ⌝ }
 {
     authorization_server::poplarchime_token(header, body, registry, store, clock, random, output)
 }
 
 fn check(token: &[u8], registry: &[u8], store: &mut [u8], clock: u64) -> CheckReply
-    ensures { λ r. ⌜ Step (now (registry .entry)) (now (store .entry))
-        (checkSeen (now (token .entry)) clock (record { answer = r; output = []; store = now (store .exit) })) ⌝ }
+    ensures { λ r. ⌜ Leaves (now (registry .entry)) (now (store .entry)) (checkCall (now (token .entry)) clock)
+        (checkSeen (record { answer = r; output = []; store = now (store .exit) })) ⌝ }
 {
     authorization_server::poplarchime_check(token, registry, store, clock)
 }

@@ -2,11 +2,11 @@
 --
 -- In order: a test as a number; a count by its test; a count by its list (from an index on, `++`, a member, `keep`), and what `keep`
 -- keeps; `any` as a count; the first that passes, where at most one does; the list with another element in the place of the first, or
--- of all, that pass.
+-- of all, that pass; all these through a map.
 --
 -- Not here: the place of the first that passes, and what holds of each element (`Searches`).
 -- Assumes nothing.
-use mathlib.Core.Path.{_≡_, refl, sym, ap, ap₂, _∙_, fun-ext}
+use mathlib.Core.Path.{_≡_, refl, sym, ap, ap₂, _∙_, fun-ext, subst}
 use mathlib.Core.Bool.{Bool, true, false, not, cond, _&&_, _||_, false≢true, and-true, and-false}
 use mathlib.Core.Logic.{_⊎_, inl, inr}
 use mathlib.Core.List.{List, [], _∷_, _++_, map, List·Memᴰ, List·Memᴰ·head, List·Memᴰ·tail, List·Memᴰ·cases-cons, List·Memᴰ·not-nil}
@@ -259,12 +259,23 @@ module _ {A B : Type 0} (f : A → B) where
       by true e = ap {B = List B} (λ r. f x ∷ r) e
       by false e = e
 
-  pub firstOr-map : (d : B) (e : A) (k : B → Bool) (l : List A) → any k (map f l) ≡ true → firstOr d k (map f l) ≡ f (firstOr e (λ x. k (f x)) l)
-  unfolding any firstOr
-  firstOr-map d e k [] h = absurd (false≢true h)
-  firstOr-map d e k (x ∷ xs) h = by (k (f x)) h (firstOr-map d e k xs)
+  -- what the two defaults agree on, the two that are found agree on
+  pub firstOr-map : {C : Type 0} (g : B → C) (d : B) (e : A) → g d ≡ g (f e) → (k : B → Bool) (l : List A)
+      → g (firstOr d k (map f l)) ≡ g (f (firstOr e (λ x. k (f x)) l))
+  unfolding firstOr
+  firstOr-map g d e h k [] = h
+  firstOr-map g d e h k (x ∷ xs) = by (k (f x)) (firstOr-map g d e h k xs)
     where
-      by : (a : Bool) → (a || any k (map f xs)) ≡ true → (any k (map f xs) ≡ true → firstOr d k (map f xs) ≡ f (firstOr e (λ y. k (f y)) xs))
-          → cond a (f x) (firstOr d k (map f xs)) ≡ f (cond a x (firstOr e (λ y. k (f y)) xs))
-      by true h ih = refl
-      by false h ih = ih h
+      by : (a : Bool) → g (firstOr d k (map f xs)) ≡ g (f (firstOr e (λ y. k (f y)) xs))
+          → g (cond a (f x) (firstOr d k (map f xs))) ≡ g (f (cond a x (firstOr e (λ y. k (f y)) xs)))
+      by true ih = refl
+      by false ih = ih
+
+  -- what holds of each element's image holds of each element of the images
+  pub member-map : (P : B → Type 0) (l : List A) → ((x : A) → List·Memᴰ x l → P (f x)) → (y : B) → List·Memᴰ y (map f l) → P y
+  member-map P [] h y m = absurd (List·Memᴰ·not-nil m)
+  member-map P (x ∷ xs) h y m = by (List·Memᴰ·cases-cons m) (λ i. member-map P xs (λ z j. h z (List·Memᴰ·tail j)) y i)
+    where
+      by : (y ≡ f x) ⊎ List·Memᴰ y (map f xs) → (List·Memᴰ y (map f xs) → P y) → P y
+      by (inl e) k = subst P (sym e) (h x (List·Memᴰ·head refl))
+      by (inr i) k = k i

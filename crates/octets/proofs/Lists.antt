@@ -122,6 +122,15 @@ tail-bytes b t h k = h (suc k)
 pub nil-bytes : Bytes []
 nil-bytes k = lit< tt
 
+-- a list of one element again and again, bytes or not
+pub each-replicate : {A : Type 0} (P : A → Type 0) (a : A) (n k : ℕ) → P a → P (getD (replicate n a) k a)
+each-replicate P a zero k p = p
+each-replicate P a (suc n) zero p = p
+each-replicate P a (suc n) (suc k) p = each-replicate P a n k p
+
+pub zero-bytes : (n : ℕ) → Bytes (replicate n 0)
+zero-bytes n k = each-replicate (λ (b : ℕ). b < 256) 0 n k (lit< tt)
+
 -- ---- a text in a table, with spaces behind it
 
 module _ (n : ℕ) (t : List ℕ) where

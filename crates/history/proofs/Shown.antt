@@ -1,0 +1,408 @@
+-- What the claim reads from a call that is served is what its request issued and ended (`standing-shown`): the code and the tokens in
+-- its answer are its random bytes in hex, and the values of its form are what it was read as.
+--
+-- In order: parts of the answer; how a body is read; a code; tokens on a code; a token on a refresh token; any call.
+-- Assumes nothing.
+use mathlib.Core.Path.{_≡_, refl, sym, ap, ap₂, _∙_, fun-ext, subst}
+use mathlib.Core.Bool.{Bool, true, false, cond, not, _&&_, _||_, false≢true}
+use mathlib.Core.List.{List, [], _∷_, _++_, map, append-assoc}
+use Prim.Native.Nat.{ℕ, _+_, _≤_}
+use native.Mathlib.Omega.{arith}
+use borrow.Author.Tests.{not-false}
+use lib.Dec.{lit<}
+use lib.ListN.{length, take, length-append}
+use lib.Seq.{take-at, drop-at}
+use Rattle.octets.specs.Text.{bytes}
+use Rattle.octets.specs.Lists.{part, same}
+use Rattle.octets.specs.Search.{keep, firstOr}
+use Rattle.octets.proofs.Booleans.{cond-of, or-none}
+use Rattle.octets.proofs.Lists.{same-eq}
+use Rattle.octets.proofs.Counting.{keep-all, keep-map, firstOr-map}
+use Rattle.encoding.specs.Hex.{hexText, readHandle}
+use Rattle.encoding.proofs.Hex.{hex-length}
+use Rattle.form.specs.Content.{Value, missing, once, repeated, formValue, isMissing, isRepeated, isOnce, onlyValue}
+use Rattle.scope.specs.Value.{scopeText}
+use Rattle.client_registry.specs.Layout.{redirectRoom}
+use Rattle.client_registry.specs.Registry.{Client}
+use Rattle.client_registry.specs.Lookup.{isKnown, clientAt}
+use Rattle.token_store.specs.Store.{Store, callTime, soughtKey}
+use Rattle.token_store.specs.declared.Slot.{Slot}
+use Rattle.token_store.specs.declared.Sought.the-variants.{Code as soughtCode}
+use Rattle.protocol.specs.declared.PageCause.the-variants.{Query}
+use Rattle.protocol.specs.declared.Refusal.{Refusal}
+use Rattle.protocol.specs.declared.Refusal.the-variants.{ErrorPage}
+use Rattle.protocol.specs.declared.Decision.{Decision}
+use Rattle.protocol.specs.declared.Decision.the-variants.{Grant, Refuse}
+use Rattle.protocol.specs.declared.ExchangeRequest.{ExchangeRequest}
+use Rattle.protocol.specs.declared.RefreshRequest.{RefreshRequest}
+use Rattle.protocol.specs.declared.Request.the-variants.{Code, Exchange, Refresh}
+use Rattle.protocol.specs.declared.Reading.{Reading}
+use Rattle.protocol.specs.Answers.{isGrant}
+use Rattle.protocol.specs.Refusals.{Reason, firstOf as firstReason}
+use Rattle.protocol.specs.Requests.{scopeAsked, noHandle, refusedReading, unlessRefused}
+use Rattle.protocol.specs.Authorization.{queryClient, isBadClient, isBadRedirect, codeAsked, pageReasons, redirectReasons, readAuthorization, separator, stateText, location, codeParameter, locationText}
+use Rattle.protocol.specs.ClientForms.{callClient}
+use Rattle.protocol.specs.Token.{readExchange, readRefresh, readGrant, readToken, tokenReply, refreshMember}
+use Rattle.protocol.specs.Granting.{firstHandle, secondHandle, Plan, refusedPlan, exchangePlan, planFor, planOf, decisionOn}
+use Rattle.protocol.specs.Outcomes.{Handed, replyText}
+use Rattle.protocol.proofs.Reasons.{unrefused}
+use Rattle.protocol.proofs.Lengths.{separator-length}
+use Rattle.history.specs.Calls.{Call, authorization, token, check, handedTo, Result}
+use Rattle.history.specs.Server.{resultOf}
+use Rattle.history.specs.Contents.{Sort, code, access, refresh, Issue, isA, isOf, noIssue, originOf, valueOf, isExchange, isRefresh, askedOr, lifetime, fortyAt, codeIn, accessIn, refreshIn, codeIssue, tokenIssue, exchangeIssues, refreshIssues, issuedBy, isEndedBy, standingAfter, twenties}
+use Rattle.history.proofs.HeldIssues.{Handle, Held, asSlot, asIssue, noneHeld, issue-key}
+use Rattle.history.proofs.Invariant.{originHeld}
+use Rattle.history.proofs.Readings.{given-asked, onlyOf, firstOf, secondOf, Brings}
+use Rattle.history.proofs.OneRequest.{codeHeld, tokenHeld, issuedHeld, isEndedHeld, heldAfter}
+use Rattle.history.proofs.AnyCall.{outcomeOn, asked, unfitTo, planOn, granted-on}
+use Rattle.history.proofs.Written.{textOn, written-text, written-on}
+
+-- ---- parts of the answer
+
+-- forty characters behind a text
+behind : (before h after : List ℕ) (at : ℕ) → length before ≡ at → length h ≡ 40 → part (before ++ (h ++ after)) at 40 ≡ h
+behind before h after at e n = ap (λ (l : List ℕ). take 40 l) (drop-at before (h ++ after) at e) ∙ take-at h after 40 n
+
+hex-forty : (h : List ℕ) → length h ≡ 20 → length (hexText h) ≡ 40
+hex-forty h n = omega (arith, hex-length h)
+
+code-part : (redirect h : List ℕ) (state : Value) → length h ≡ 20
+    → part (location redirect (codeParameter h) state) (length redirect + 1 + length (bytes "code=")) 40 ≡ hexText h
+unfolding location codeParameter
+code-part redirect h state n =
+    simp append-assoc
+    (simp append-assoc at
+    (behind (redirect ++ separator redirect ++ bytes "code=") (hexText h) (stateText state) (length redirect + 1 + length (bytes "code="))
+    (simp length-append (omega (arith, separator-length redirect))) (hex-forty h n)))
+
+abbrev beforeAccess : List ℕ
+beforeAccess = bytes "{\"access_token\":\""
+
+abbrev beforeRefresh : List ℕ
+beforeRefresh = bytes "\",\"token_type\":\"Bearer\",\"expires_in\":3600,\"refresh_token\":\""
+
+access-part : (h between : List ℕ) (scope : ℕ) → length h ≡ 20 → part (tokenReply h between scope) (length beforeAccess) 40 ≡ hexText h
+unfolding tokenReply
+access-part h between scope n =
+    let after = bytes "\",\"token_type\":\"Bearer\",\"expires_in\":3600," ++ between ++ bytes "\"scope\":\"" ++ scopeText scope ++ bytes "\"}" in
+    simp append-assoc (simp append-assoc at (behind beforeAccess (hexText h) after (length beforeAccess) refl (hex-forty h n)))
+
+-- and behind a second text
+second-behind : (before h between name k end x y z : List ℕ) (at : ℕ) → length before + 40 + (length between + length name) ≡ at
+    → length h ≡ 40 → length k ≡ 40 → part (before ++ h ++ between ++ (name ++ k ++ end) ++ x ++ y ++ z) at 40 ≡ k
+second-behind before h between name k end x y z at e n m =
+    simp append-assoc
+    (simp append-assoc at
+    (behind (before ++ h ++ between ++ name) k (end ++ x ++ y ++ z) at (simp length-append (omega (arith, n, e))) m))
+
+refresh-part : (h k : List ℕ) (scope : ℕ) → length h ≡ 20 → length k ≡ 20
+    → part (tokenReply h (refreshMember k) scope) (length beforeAccess + 40 + length beforeRefresh) 40 ≡ hexText k
+unfolding tokenReply refreshMember
+refresh-part h k scope n m =
+    second-behind beforeAccess (hexText h) (bytes "\",\"token_type\":\"Bearer\",\"expires_in\":3600,") (bytes "\"refresh_token\":\"") (hexText k)
+    (bytes "\",") (bytes "\"scope\":\"") (scopeText scope) (bytes "\"}") (length beforeAccess + 40 + length beforeRefresh) refl (hex-forty h n)
+    (hex-forty k m)
+
+-- ---- how a body is read
+
+module _ (clients : List Client) (header body : List ℕ) where
+  abbrev pub exchangeAsked : ExchangeRequest
+  exchangeAsked =
+      let number = callClient clients header body in
+      record { client = number; again = isOnce (clientAt clients number .redirect) (formValue body (bytes "redirect_uri")) }
+
+  abbrev pub refreshAsked : RefreshRequest
+  refreshAsked = record { client = callClient clients header body; scope = scopeAsked (formValue body (bytes "scope")) }
+
+  abbrev pub exchangeReading : Reading
+  exchangeReading = record { request = Exchange exchangeAsked; presented = readHandle (valueOf body (bytes "code")) }
+
+  abbrev pub refreshReading : Reading
+  refreshReading = record { request = Refresh refreshAsked; presented = readHandle (valueOf body (bytes "refresh_token")) }
+
+  pub data ReadAs (reading : Reading) : Type 0 where
+    refusedAs : (r : Refusal) → reading ≡ refusedReading r → ReadAs reading
+    exchangeAs : isExchange body ≡ true → reading ≡ exchangeReading → ReadAs reading
+    refreshAs : isExchange body ≡ false → isRefresh body ≡ true → reading ≡ refreshReading → ReadAs reading
+
+  unless-read : (d : Decision) (x : Reading) → ReadAs x → ReadAs (unlessRefused d x)
+  unfolding unlessRefused
+  unless-read Grant x p = p
+  unless-read (Refuse r) x p = refusedAs r refl
+
+  pub token-read : ReadAs (readToken clients header body)
+  unfolding readToken readGrant readExchange readRefresh
+  token-read =
+      unless-read _ _
+      (cond-of ReadAs (isExchange body) _ _ (λ e. unless-read _ _ (exchangeAs e refl))
+      (λ n. cond-of ReadAs (isRefresh body) _ _ (λ e. unless-read _ _ (refreshAs n e refl)) (λ _. refusedAs _ refl)))
+
+-- ---- a call that is granted
+
+module _ (t : ℕ) (slots : List Slot) (random : List ℕ) where
+  abbrev IsGranted : Reading → Type 0
+  IsGranted reading = isGrant (decisionOn (planOf t slots random reading)) ≡ true
+
+  pub never-refused : {A : Type 0} (r : Refusal) → IsGranted (refusedReading r) → A
+  unfolding planFor refusedPlan firstReason isGrant
+  never-refused r e = absurd (false≢true e)
+
+  unless-granted : (d : Decision) (x : Reading) → IsGranted (unlessRefused d x) → d ≡ Grant
+  unfolding unlessRefused
+  unless-granted Grant x e = refl
+  unless-granted (Refuse r) x e = never-refused r e
+
+pub is-grant : (d : Decision) → isGrant d ≡ true → d ≡ Grant
+unfolding isGrant
+is-grant Grant e = refl
+is-grant (Refuse r) e = absurd (false≢true e)
+
+-- an address that is neither repeated nor another's
+own-address : (redirect : List ℕ) (given : Value) → isRepeated given ≡ false → (not (isMissing given) && not (isOnce redirect given)) ≡ false
+    → given ≡ cond (not (isMissing given)) (once redirect) missing
+unfolding isMissing isRepeated isOnce
+own-address redirect missing a b = refl
+own-address redirect (once v) a b = ap once (same-eq v redirect (not-false (same v redirect) b))
+own-address redirect repeated a b = absurd (false≢true (sym a))
+
+-- ---- what a call that is granted issues and ends
+
+module _ (clients : List Client) (held : List Held) where
+  abbrev issues : List Issue
+  issues = map (asIssue clients) held
+
+  -- a look-up by the claim's words finds what a look-up by the slots finds
+  pub origin-shown : {A : Type 0} (f : Issue → A) (sort : Sort) (text : List ℕ) → f noIssue ≡ f (asIssue clients noneHeld)
+      → f (originOf sort text issues) ≡ f (asIssue clients (originHeld sort (readHandle text) held))
+  origin-shown f sort text none =
+      firstOr-map (asIssue clients) f noIssue noneHeld none (λ e. isA sort e && isOf text e) held
+      ∙ ap (λ (k : Held → Bool). f (asIssue clients (firstOr noneHeld k held))) (fun-ext (issue-key clients sort text))
+
+  -- a token on the code or refresh token that a text presents
+  token-shown : (t : ℕ) (sort : Sort) (text : List ℕ) (h : Handle) → text ≡ hexText (h .octets) → (f : ℕ → ℕ) (from : Sort) (presented : List ℕ)
+      → let o = originOf from presented issues in
+      let x = originHeld from (readHandle presented) held in
+      tokenIssue sort t text o (f (o .scope)) ≡ asIssue clients (tokenHeld sort t h x (f (x .scope)))
+  unfolding noIssue noneHeld
+  token-shown t sort text h e f from presented =
+      let o = originOf from presented issues in
+      ap (λ (l : List ℕ). tokenIssue sort t l o (f (o .scope))) e
+      ∙ origin-shown (λ x. tokenIssue sort t (hexText (h .octets)) x (f (x .scope))) from presented refl
+
+  -- all but the code that a text presents
+  code-ended : (text : List ℕ) → keep (λ e. not (isA code e && isOf text e)) issues
+      ≡ map (asIssue clients) (keep (λ e. not (soughtKey soughtCode (readHandle text) (asSlot e))) held)
+  code-ended text =
+      keep-map (asIssue clients) (λ e. not (isA code e && isOf text e)) held
+      ∙ ap (λ (k : Held → Bool). map (asIssue clients) (keep k held)) (fun-ext (λ e. ap not (issue-key clients code text e)))
+
+module _ (clients : List Client) (short : (n : ℕ) → length (clientAt clients n .redirect) ≤ redirectRoom) (g : Store) (held : List Held) where
+  abbrev result : Call → Result
+  result c = resultOf (outcomeOn clients g c)
+
+  -- the characters of an answer are those of what was written
+  forty-text : (c : Call) → unfitTo c ≡ false → (at : ℕ) → fortyAt at (result c) ≡ part (textOn clients g c) at 40
+  forty-text c fit at = ap (λ (l : List ℕ). part l at 40) (written-text (written-on clients short g c fit))
+
+  -- ---- a code
+
+  module _ (query : List ℕ) (decision farm : ℕ) (handed : Handed) where
+    abbrev authorizes : Call
+    authorizes = authorization query decision farm handed
+
+    abbrev t : ℕ
+    t = callTime g (handed .clock)
+
+    abbrev number : ℕ
+    number = queryClient clients query
+
+    abbrev reasons : List Reason
+    reasons = pageReasons clients query ++ redirectReasons (clientAt clients number) query decision
+
+    abbrev codeReading : Reading
+    codeReading = record { request = Code (codeAsked clients query farm); presented = noHandle }
+
+    -- an address that was given is the client's
+    address-given : firstReason reasons ≡ Grant
+        → let given = formValue query (bytes "redirect_uri") in
+        given ≡ cond (not (isMissing given)) (once (clientAt clients number .redirect)) missing
+    unfolding pageReasons redirectReasons isBadClient isBadRedirect isGrant
+    address-given e =
+        let given = formValue query (bytes "redirect_uri") in
+        let id = formValue query (bytes "client_id") in
+        let passed = ap isGrant e in
+        let named = isRepeated id || isMissing id || not (isKnown (onlyValue id) clients) in
+        own-address (clientAt clients number .redirect) given (or-none named (isRepeated given) (unrefused reasons passed 1 (lit< tt)) .1)
+        (unrefused reasons passed 2 (lit< tt))
+
+    pub code-text : unfitTo authorizes ≡ false → IsGranted t (g .slots) (handed .random) (readAuthorization clients query decision farm)
+        → length (firstHandle (handed .random)) ≡ 20
+        → codeIn (clientAt clients number) (result authorizes) ≡ hexText (firstHandle (handed .random))
+    unfolding textOn locationText asked handedTo
+    code-text fit granted size =
+        let redirect = clientAt clients number .redirect in
+        let state = formValue query (bytes "state") in
+        let first = firstHandle (handed .random) in
+        let at = length redirect + 1 + length (bytes "code=") in
+        forty-text authorizes fit at
+        ∙ ap (λ (d : Decision). part (locationText redirect state first d) at 40) (is-grant (decisionOn (planOn clients g authorizes)) granted)
+        ∙ code-part redirect first state size
+
+    code-issued : unfitTo authorizes ≡ false → IsGranted t (g .slots) (handed .random) (readAuthorization clients query decision farm)
+        → (h : Handle) → h .octets ≡ firstHandle (handed .random)
+        → codeIssue clients t query farm (result authorizes) ≡ asIssue clients (codeHeld t h (codeAsked clients query farm))
+    unfolding codeIssue codeAsked queryClient readAuthorization
+    code-issued fit granted h e =
+        let text = code-text fit granted (ap length (sym e) ∙ h .size) ∙ ap hexText (sym e) in
+        let scope = sym (given-asked (formValue query (bytes "scope")) (clientAt clients number .scope)) in
+        let address = address-given (unless-granted t (g .slots) (handed .random) (firstReason reasons) codeReading granted) in
+        λ i. record {
+          sort = code;
+          text = text i;
+          client = number;
+          farm = farm;
+          scope = scope i;
+          address = address i;
+          expiry = t + lifetime code;
+        }
+
+    -- what stands after it
+    abbrev CodeStands : Reading → Type 0
+    CodeStands reading =
+        (q : Brings (length clients) (handed .random) (twenties authorizes) (reading .request))
+        → codeIssue clients t query farm (result authorizes) ∷ keep (λ e. true) (issues clients held)
+        ≡ map (asIssue clients)
+        (heldAfter t held (length clients) (handed .random) (twenties authorizes) (reading .presented) (reading .request) q)
+
+    code-stands : unfitTo authorizes ≡ false → IsGranted t (g .slots) (handed .random) (readAuthorization clients query decision farm)
+        → CodeStands (readAuthorization clients query decision farm)
+    unfolding readAuthorization unlessRefused issuedHeld isEndedHeld Brings
+    code-stands fit granted =
+        subst (λ (d : Decision). CodeStands (unlessRefused d codeReading))
+        (sym (unless-granted t (g .slots) (handed .random) (firstReason reasons) codeReading granted))
+        (λ q. ap₂ {C = List Issue} (λ e es. e ∷ es) (code-issued fit granted (onlyOf (q .0)) refl)
+        (keep-all (issues clients held) ∙ ap (λ (l : List Held). map (asIssue clients) l) (sym (keep-all held))))
+
+  -- ---- tokens
+
+  module _ (header body : List ℕ) (handed : Handed) (fit : unfitTo (token header body handed) ≡ false) where
+    abbrev asks : Call
+    asks = token header body handed
+
+    abbrev at : ℕ
+    at = callTime g (handed .clock)
+
+    abbrev first : List ℕ
+    first = firstHandle (handed .random)
+
+    abbrev second : List ℕ
+    second = secondHandle (handed .random)
+
+    abbrev GrantedAs : Reading → Type 0
+    GrantedAs reading = IsGranted at (g .slots) (handed .random) reading
+
+    module _ {reading : Reading} (read : readToken clients header body ≡ reading) (granted : GrantedAs reading) where
+      -- what is written, for any part of it
+      reply-shown : (place : ℕ) → fortyAt place (result asks)
+          ≡ part (replyText (handed .random) (planOf at (g .slots) (handed .random) reading) Grant) place 40
+      unfolding textOn asked handedTo
+      reply-shown place =
+          let plan : Reading → Plan = λ r. planOf at (g .slots) (handed .random) r in
+          forty-text asks fit place
+          ∙ ap (λ (r : Reading). part (replyText (handed .random) (plan r) (decisionOn (plan r))) place 40) read
+          ∙ ap (λ (d : Decision). part (replyText (handed .random) (plan reading) d) place 40) (is-grant (decisionOn (plan reading)) granted)
+
+      pub access-text : length first ≡ 20 → accessIn (result asks) ≡ hexText first
+      unfolding replyText
+      access-text size = reply-shown (length beforeAccess) ∙ access-part first _ _ size
+
+    -- ---- tokens on a code
+
+    abbrev exchanges : Reading
+    exchanges = exchangeReading clients header body
+
+    pub refresh-text : readToken clients header body ≡ exchanges → GrantedAs exchanges → length first ≡ 20 → length second ≡ 20
+        → refreshIn (result asks) ≡ hexText second
+    unfolding replyText planFor exchangePlan
+    refresh-text read granted n m =
+        reply-shown read granted (length beforeAccess + 40 + length beforeRefresh) ∙ refresh-part first second _ n m
+
+    abbrev Stands : Reading → Type 0
+    Stands reading =
+        GrantedAs reading → (q : Brings (length clients) (handed .random) (twenties asks) (reading .request))
+        → issuedBy clients at (issues clients held) asks (result asks) ++ keep (λ e. not (isEndedBy asks e)) (issues clients held)
+        ≡ map (asIssue clients) (heldAfter at held (length clients) (handed .random) (twenties asks) (reading .presented) (reading .request) q)
+
+    exchange-stands : isExchange body ≡ true → readToken clients header body ≡ exchanges → Stands exchanges
+    unfolding issuedBy exchangeIssues isEndedBy issuedHeld isEndedHeld Brings
+    exchange-stands is read granted q =
+        let first = firstOf q in
+        let second = secondOf q in
+        let text = valueOf body (bytes "code") in
+        let refreshed = token-shown clients held at refresh _ second (refresh-text read granted (first .size) (second .size)) (λ s. s) code text in
+        let accessed = token-shown clients held at access _ first (access-text read granted (first .size)) (λ s. s) code text in
+        rw is (ap₂ {C = List Issue} (λ e es. e ∷ es) refreshed (ap₂ {C = List Issue} (λ e es. e ∷ es) accessed (code-ended clients held text)))
+
+    -- ---- a token on a refresh token
+
+    abbrev refreshes : Reading
+    refreshes = refreshReading clients header body
+
+    refresh-stands : isExchange body ≡ false → isRefresh body ≡ true → readToken clients header body ≡ refreshes → Stands refreshes
+    unfolding issuedBy refreshIssues isEndedBy issuedHeld isEndedHeld Brings
+    refresh-stands other is read granted q =
+        let first = firstOf (q .0) in
+        let text = valueOf body (bytes "refresh_token") in
+        let scope = formValue body (bytes "scope") in
+        let accessed = token-shown clients held at access _ first (access-text read granted (first .size)) (λ s. askedOr scope s) refresh text in
+        let o = originHeld refresh (readHandle text) held in
+        let given = ap (λ (s : ℕ). asIssue clients (tokenHeld access at first o s)) (sym (given-asked scope (o .scope))) in
+        rw (other, is)
+        (ap₂ {C = List Issue} (λ e es. e ∷ es) (accessed ∙ given)
+        (keep-all (issues clients held) ∙ ap (λ (l : List Held). map (asIssue clients) l) (sym (keep-all held))))
+
+    token-stands : Stands (readToken clients header body)
+    token-stands = by (token-read clients header body)
+      where
+        by : ReadAs clients header body (readToken clients header body) → Stands (readToken clients header body)
+        by (refusedAs r e) = rw e (λ granted q. never-refused at (g .slots) (handed .random) r granted)
+        by (exchangeAs is e) = subst Stands (sym e) (exchange-stands is e)
+        by (refreshAs other is e) = subst Stands (sym e) (refresh-stands other is e)
+
+  -- ---- any call
+
+  granted-shown : (c : Call) → unfitTo c ≡ false
+      → (q : Brings (length clients) (handedTo c .random) (twenties c) (asked clients c .request))
+      → isGrant (decisionOn (planOn clients g c)) ≡ true
+      → let time = callTime g (handedTo c .clock) in
+      issuedBy clients time (issues clients held) c (result c) ++ keep (λ e. not (isEndedBy c e)) (issues clients held)
+      ≡ map (asIssue clients)
+      (heldAfter time held (length clients) (handedTo c .random) (twenties c) (asked clients c .presented) (asked clients c .request) q)
+  unfolding issuedBy isEndedBy handedTo asked
+  granted-shown (authorization query decision farm handed) fit q e = code-stands query decision farm handed fit e q
+  granted-shown (token header body handed) fit q e = token-stands header body handed fit e q
+  granted-shown (check presented clock) fit q e = never-refused (callTime g clock) (g .slots) [] (ErrorPage Query) e
+
+  pub standing-shown : (c : Call) → unfitTo c ≡ false
+      → (q : Brings (length clients) (handedTo c .random) (twenties c) (asked clients c .request))
+      → let time = callTime g (handedTo c .clock) in
+      let reading = asked clients c in
+      standingAfter clients time (issues clients held) c (result c)
+      ≡ map (asIssue clients)
+      (cond (isGrant (decisionOn (planOn clients g c)))
+      (heldAfter time held (length clients) (handedTo c .random) (twenties c) (reading .presented) (reading .request) q) held)
+  unfolding standingAfter
+  standing-shown c fit q =
+      ap (λ (b : Bool). cond b read (issues clients held)) (granted-on clients g c) ∙ by (isGrant (decisionOn (planOn clients g c))) refl
+    where
+      after : List Held
+      after =
+          heldAfter (callTime g (handedTo c .clock)) held (length clients) (handedTo c .random) (twenties c) (asked clients c .presented)
+          (asked clients c .request) q
+
+      read : List Issue
+      read = issuedBy clients (callTime g (handedTo c .clock)) (issues clients held) c (result c) ++ keep (λ e. not (isEndedBy c e)) (issues clients held)
+
+      by : (b : Bool) → isGrant (decisionOn (planOn clients g c)) ≡ b → cond b read (issues clients held) ≡ map (asIssue clients) (cond b after held)
+      by true e = granted-shown c fit q e
+      by false e = refl
