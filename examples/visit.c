@@ -1,5 +1,6 @@
 /*
- * A host in C that plays the papers' visit from end to end: two apps ask for a farm's readings.
+ * A host in C that plays the papers' visit from end to end: two apps ask for a farm's readings. Then a server asks for
+ * its own.
  *
  * It shows each request and answer, and holds each answer to what the papers say. The last line is
  * 'N passed, M failed', and the exit status is 0 only if M is 0. `examples/run` builds and runs it.
@@ -24,7 +25,7 @@ static int passed, failed;
 /* ---- What a host keeps ---- */
 
 struct host {
-    uint8_t registry[POPLARCHIME_CONFIDENTIAL_RECORD_SIZE + POPLARCHIME_PUBLIC_RECORD_SIZE];
+    uint8_t registry[2 * POPLARCHIME_CONFIDENTIAL_RECORD_SIZE + POPLARCHIME_PUBLIC_RECORD_SIZE];
     size_t registry_length;
     uint8_t store[POPLARCHIME_STORE_SIZE];
     uint8_t output[POPLARCHIME_LEAST_OUTPUT];
@@ -91,25 +92,31 @@ static int same(const uint8_t *bytes, size_t length, const char *text)
 
 /* ---- The three endpoints, as a host calls them ---- */
 
+/* The farm whose owner is asked, and what stands in its place in a token that a client has for itself. */
 #define FARM 7
+#define NO_FARM 0
 
 static struct poplarchime_authorization call_authorize(struct host *host, const char *query, uint64_t decision,
-                                                       uint64_t clock, uint8_t random_from)
+                                                       uint32_t farm, uint64_t clock, uint8_t random_from)
 {
     uint8_t random[POPLARCHIME_AUTHORIZE_RANDOM];
     count_up(random, sizeof random, random_from);
-    printf("   clock %" PRIu64 ", the owner %s\n", clock, decision == POPLARCHIME_ALLOW ? "allows farm 7" : "denies");
+    printf("   clock %" PRIu64 ", ", clock);
+    if (decision == POPLARCHIME_ALLOW)
+        printf("the owner allows farm %" PRIu32 "\n", farm);
+    else
+        printf("the owner denies\n");
     printf("   > GET /authorize?%s\n", query);
-    return poplarchime_authorize((const uint8_t *)query, strlen(query), decision, FARM,
+    return poplarchime_authorize((const uint8_t *)query, strlen(query), decision, farm,
                                  host->registry, host->registry_length, host->store, sizeof host->store,
                                  clock, random, sizeof random, host->output, sizeof host->output);
 }
 
 /* The answer must be a redirect to this location; error is the number of the word in it, 0 for a code. */
-static void redirects(struct host *host, const char *query, uint64_t decision, uint64_t clock, uint8_t random_from,
-                      uint32_t error, const char *location)
+static void redirects_for(struct host *host, uint32_t farm, const char *query, uint64_t decision, uint64_t clock,
+                          uint8_t random_from, uint32_t error, const char *location)
 {
-    struct poplarchime_authorization answer = call_authorize(host, query, decision, clock, random_from);
+    struct poplarchime_authorization answer = call_authorize(host, query, decision, farm, clock, random_from);
     if (answer.refusal != POPLARCHIME_NOT_REFUSED)
         printf("   < refusal %" PRIu32 "\n", answer.refusal);
     else
@@ -118,15 +125,44 @@ static void redirects(struct host *host, const char *query, uint64_t decision, u
               && same(host->output, answer.length, location), location);
 }
 
+static void redirects(struct host *host, const char *query, uint64_t decision, uint64_t clock, uint8_t random_from,
+                      uint32_t error, const char *location)
+{
+    redirects_for(host, FARM, query, decision, clock, random_from, error, location);
+}
+
 /* There must be no redirect, for this reason. */
 static void shows_page(struct host *host, const char *query, uint32_t refusal, const char *reason)
 {
-    struct poplarchime_authorization answer = call_authorize(host, query, POPLARCHIME_ALLOW, 1000, 0x00);
+    struct poplarchime_authorization answer = call_authorize(host, query, POPLARCHIME_ALLOW, FARM, 1000, 0x00);
     printf("   < refusal %" PRIu32 ": the host answers 400 with a page of its own\n", answer.refusal);
     judge(answer.refusal == refusal && answer.error == 0 && answer.length == 0, reason);
 }
 
-/* The answer must have this status, challenge and body. */
+#define INVALID_GRANT "{\"error\":\"invalid_grant\"}"
+#define INVALID_CLIENT "{\"error\":\"invalid_client\"}"
+#define INVALID_SCOPE "{\"error\":\"invalid_scope\"}"
+#define UNAUTHORIZED_CLIENT "{\"error\":\"unauthorized_client\"}"
+
+/* The number of the error word in a body, 0 for tokens. */
+static uint32_t error_in(const char *body)
+{
+    static const struct {
+        const char *body;
+        uint32_t number;
+    } errors[] = {
+        {INVALID_GRANT, POPLARCHIME_INVALID_GRANT},
+        {INVALID_CLIENT, POPLARCHIME_INVALID_CLIENT},
+        {INVALID_SCOPE, POPLARCHIME_INVALID_SCOPE},
+        {UNAUTHORIZED_CLIENT, POPLARCHIME_UNAUTHORIZED_CLIENT},
+    };
+    for (size_t i = 0; i < sizeof errors / sizeof errors[0]; i++)
+        if (strcmp(body, errors[i].body) == 0)
+            return errors[i].number;
+    return POPLARCHIME_NO_ERROR;
+}
+
+/* The answer must have this status, challenge and body, and the number of the error word in it. */
 static void replies(struct host *host, const char *header, const char *body, uint64_t clock, uint8_t random_from,
                     uint32_t status, uint32_t challenge, const char *expected)
 {
@@ -146,7 +182,7 @@ static void replies(struct host *host, const char *header, const char *body, uin
     if (reply.length)
         printf("   <   %.*s\n", (int)reply.length, (const char *)host->output);
     judge(reply.refusal == POPLARCHIME_NOT_REFUSED && reply.status == status && reply.challenge == challenge
-              && same(host->output, reply.length, expected), expected);
+              && reply.error == error_in(expected) && same(host->output, reply.length, expected), expected);
 }
 
 static struct poplarchime_check_answer call_check(struct host *host, const char *token, uint64_t clock)
@@ -156,15 +192,21 @@ static struct poplarchime_check_answer call_check(struct host *host, const char 
                              host->store, sizeof host->store, clock);
 }
 
-/* The token must be live for this client, farm 7 and scope. */
-static void is_live(struct host *host, const char *token, uint64_t clock, uint32_t client, uint32_t scope,
-                    uint64_t seconds_left)
+/* The token must be live for this client, farm and scope. */
+static void is_live_for(struct host *host, uint32_t farm, const char *token, uint64_t clock, uint32_t client,
+                        uint32_t scope, uint64_t seconds_left)
 {
     struct poplarchime_check_answer answer = call_check(host, token, clock);
     printf("   < live %" PRIu32 ": client %" PRIu32 ", farm %" PRIu32 ", scope set %" PRIu32 ", %" PRIu64
            " seconds left\n", answer.live, answer.client, answer.farm, answer.scope, answer.seconds_left);
     judge(answer.refusal == POPLARCHIME_NOT_REFUSED && answer.live == 1 && answer.client == client
-              && answer.farm == FARM && answer.scope == scope && answer.seconds_left == seconds_left, "live");
+              && answer.farm == farm && answer.scope == scope && answer.seconds_left == seconds_left, "live");
+}
+
+static void is_live(struct host *host, const char *token, uint64_t clock, uint32_t client, uint32_t scope,
+                    uint64_t seconds_left)
+{
+    is_live_for(host, FARM, token, clock, client, scope, seconds_left);
 }
 
 static void is_not_live(struct host *host, const char *token, uint64_t clock)
@@ -183,14 +225,16 @@ static void is_not_live(struct host *host, const char *token, uint64_t clock)
 #define CODE "000102030405060708090a0b0c0d0e0f10111213"
 #define ACCESS "202122232425262728292a2b2c2d2e2f30313233"
 #define REFRESH "3435363738393a3b3c3d3e3f4041424344454647"
+#define LATER_ACCESS "505152535455565758595a5b5c5d5e5f60616263"
 #define EXCHANGE_OF(code) \
     "grant_type=authorization_code&code=" code "&redirect_uri=https%3A%2F%2Fclient%2Eexample%2Ecom%2Fcb"
 #define EXCHANGE EXCHANGE_OF(CODE)
 #define TOKENS_FOR(scope) \
     "{\"access_token\":\"" ACCESS "\",\"token_type\":\"Bearer\",\"expires_in\":3600," \
     "\"refresh_token\":\"" REFRESH "\",\"scope\":\"" scope "\"}"
-#define INVALID_GRANT "{\"error\":\"invalid_grant\"}"
-#define INVALID_CLIENT "{\"error\":\"invalid_client\"}"
+/* The reply where no refresh token is issued. */
+#define ONE_TOKEN(access, scope) \
+    "{\"access_token\":\"" access "\",\"token_type\":\"Bearer\",\"expires_in\":3600,\"scope\":\"" scope "\"}"
 
 static void confidential_client(struct host *host)
 {
@@ -207,9 +251,8 @@ static void confidential_client(struct host *host)
     is_live(host, ACCESS, 1200, 0, 11, 3500);
     title("The client refreshes it, for less scope");
     replies(host, BASIC, "grant_type=refresh_token&refresh_token=" REFRESH "&scope=bill+power", 1300, 0x50, 200, 0,
-            "{\"access_token\":\"505152535455565758595a5b5c5d5e5f60616263\",\"token_type\":\"Bearer\","
-            "\"expires_in\":3600,\"scope\":\"power bill\"}");
-    is_live(host, "505152535455565758595a5b5c5d5e5f60616263", 1300, 0, 9, 3600);
+            ONE_TOKEN(LATER_ACCESS, "power bill"));
+    is_live(host, LATER_ACCESS, 1300, 0, 9, 3600);
     title("Somebody shows the code again");
     replies(host, BASIC, EXCHANGE, 1300, 0x80, 400, 0, INVALID_GRANT);
     title("The access token runs out after an hour; a clock that goes back does not revive it");
@@ -255,6 +298,36 @@ static void public_client(struct host *host)
     replies(host, "", "grant_type=authorization_code&code=" CODE "&client_id=barnapp", 1000, 0x20, 200, 0,
             TOKENS_FOR("power"));
     is_live(host, ACCESS, 1000, 1, 1, 3600);
+}
+
+/* Base64 of `grainpool:wheat4barley`. */
+#define POOL_BASIC "Basic Z3JhaW5wb29sOndoZWF0NGJhcmxleQ=="
+
+static void client_for_itself(struct host *host)
+{
+    start(host);
+    /* Registered at the end, so that the others keep their numbers; its redirect is not used here. */
+    add_client(host, "grainpool", "https://pool.example/cb", POPLARCHIME_SCOPE_PUMP + POPLARCHIME_SCOPE_SOLAR,
+               "wheat4barley");
+    title("The grain pool's server reads its own pump meters: it asks with its own secret, and no farmer is asked");
+    replies(host, POOL_BASIC, "grant_type=client_credentials&scope=pump", 1000, 0x20, 200, 0,
+            ONE_TOKEN(ACCESS, "pump"));
+    title("The portal checks the token: client 2 for pump, and farm 0, which is no farmer's");
+    is_live_for(host, NO_FARM, ACCESS, 1000, 2, POPLARCHIME_SCOPE_PUMP, 3600);
+    title("Without a scope the server gets all that it is registered for; there is nothing to refresh, it asks again");
+    replies(host, POOL_BASIC, "grant_type=client_credentials", 4599, 0x50, 200, 0,
+            ONE_TOKEN(LATER_ACCESS, "pump solar"));
+    is_live_for(host, NO_FARM, LATER_ACCESS, 4599, 2, POPLARCHIME_SCOPE_PUMP + POPLARCHIME_SCOPE_SOLAR, 3600);
+    title("The first token runs out after its hour");
+    is_live_for(host, NO_FARM, ACCESS, 4599, 2, POPLARCHIME_SCOPE_PUMP, 1);
+    is_not_live(host, ACCESS, 4600);
+    title("For other readings it is not registered");
+    replies(host, POOL_BASIC, "grant_type=client_credentials&scope=pump+bill", 4600, 0x80, 400, 0, INVALID_SCOPE);
+    title("Anybody can name a public client, so it cannot ask for itself");
+    replies(host, "", "grant_type=client_credentials&client_id=barnapp", 4600, 0x80, 400, 0, UNAUTHORIZED_CLIENT);
+    title("No owner can allow farm 0: his decision counts as a denial");
+    redirects_for(host, NO_FARM, QUERY, POPLARCHIME_ALLOW, 4600, 0x80, POPLARCHIME_ACCESS_DENIED,
+                  "https://client.example.com/cb?error=access_denied&state=xyz");
 }
 
 static void bad_requests(struct host *host)
@@ -317,6 +390,7 @@ int main(void)
     confidential_client(&host);
     time_that_never_goes_back(&host);
     public_client(&host);
+    client_for_itself(&host);
     bad_requests(&host);
     bad_hosts(&host);
     printf("\n%d passed, %d failed\n", passed, failed);

@@ -24,8 +24,11 @@
 #include <stddef.h>
 #include <stdint.h>
 
-/* The version of this interface and of the archive that goes with it. */
-#define POPLARCHIME_VERSION "0.1.0"
+/*
+ * The version of this interface and of the archive that goes with it. Where the second number moves, a host may have to
+ * change: docs/changes/ says what moved.
+ */
+#define POPLARCHIME_VERSION "0.2.0"
 
 #ifdef __cplusplus
 extern "C" {
@@ -111,7 +114,8 @@ enum poplarchime_error {
     POPLARCHIME_UNSUPPORTED_RESPONSE_TYPE = 6,
     POPLARCHIME_ACCESS_DENIED = 7,
     POPLARCHIME_TEMPORARILY_UNAVAILABLE = 8,
-    POPLARCHIME_SERVER_ERROR = 9
+    POPLARCHIME_SERVER_ERROR = 9,
+    POPLARCHIME_UNAUTHORIZED_CLIENT = 10
 };
 
 /* The owner's decision. Every other number denies too. */
@@ -165,13 +169,13 @@ struct poplarchime_token_reply {
 /*
  * refusal 2 to 4: answer 500, log it; nothing changed.
  * live 0:         unknown or run out. The resource server answers 401, `WWW-Authenticate: Bearer error="invalid_token"`.
- * live 1:         whose token it is, for which farm and scope, and for how long. Test the scope before serving.
+ * live 1:         whose token it is, for which farm and scope, and for how long. Test farm and scope before serving.
  */
 struct poplarchime_check_answer {
     uint32_t refusal;      /* enum poplarchime_refusal: 0, or 2 to 4 */
     uint32_t live;         /* 1 or 0; the rest is 0 when it is 0 */
     uint32_t client;       /* number of the client in the registry, from 0 */
-    uint32_t farm;         /* as the owner's decision had it */
+    uint32_t farm;         /* as the owner's decision had it; 0: a token of the client for itself, no owner was asked */
     uint32_t scope;        /* a sum of enum poplarchime_scope */
     uint64_t seconds_left; /* until the token runs out, at least 1 */
 };
@@ -180,7 +184,8 @@ struct poplarchime_check_answer {
 
 /*
  * The authorization endpoint, response type `code`. Call it once the owner has logged in and decided; `farm` is what he
- * allows. `query` is the query of the request without its `?`. `output` receives the location.
+ * allows. Farm 0 is no owner's, so a decision for it is denied. `query` is the query of the request without its `?`.
+ * `output` receives the location.
  */
 struct poplarchime_authorization poplarchime_authorize(
     const uint8_t *query, size_t query_length,
@@ -192,9 +197,10 @@ struct poplarchime_authorization poplarchime_authorize(
     uint8_t *output, size_t output_length);
 
 /*
- * The token endpoint, for POST requests: grants `authorization_code` and `refresh_token`. `header` is the value of the
- * Authorization field, of length 0 when there was none. `body` is the form in the request's body. `output` receives the
- * reply's body.
+ * The token endpoint, for POST requests: grants `authorization_code`, `refresh_token` and `client_credentials`. By the
+ * last one a confidential client gets an access token for itself; a public one gets `unauthorized_client`. `header` is
+ * the value of the Authorization field, of length 0 when there was none. `body` is the form in the request's body.
+ * `output` receives the reply's body.
  */
 struct poplarchime_token_reply poplarchime_token(
     const uint8_t *header, size_t header_length,

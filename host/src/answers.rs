@@ -56,10 +56,11 @@ pub enum ErrorWord {
     AccessDenied = 7,
     TemporarilyUnavailable = 8,
     ServerError = 9,
+    UnauthorizedClient = 10,
 }
 
 impl ErrorWord {
-    pub const ALL: [ErrorWord; 9] = [
+    pub const ALL: [ErrorWord; 10] = [
         ErrorWord::InvalidRequest,
         ErrorWord::InvalidClient,
         ErrorWord::InvalidGrant,
@@ -69,6 +70,7 @@ impl ErrorWord {
         ErrorWord::AccessDenied,
         ErrorWord::TemporarilyUnavailable,
         ErrorWord::ServerError,
+        ErrorWord::UnauthorizedClient,
     ];
 
     pub fn number(self) -> u32 {
@@ -86,6 +88,7 @@ impl ErrorWord {
             ErrorWord::AccessDenied => "access_denied",
             ErrorWord::TemporarilyUnavailable => "temporarily_unavailable",
             ErrorWord::ServerError => "server_error",
+            ErrorWord::UnauthorizedClient => "unauthorized_client",
         }
     }
 }

@@ -46,7 +46,7 @@ pub query-random : (clients : List Client) (query : List ℕ) (decision farm : �
     → randomNeeded (readAuthorization clients query decision farm .request) ≤ codeRandom
 unfolding readAuthorization unlessRefused
 query-random clients query decision farm =
-    by (firstOf (pageReasons clients query ++ redirectReasons (clientAt clients (queryClient clients query)) query decision))
+    by (firstOf (pageReasons clients query ++ redirectReasons (clientAt clients (queryClient clients query)) query decision farm))
   where
     asked : Reading
     asked = record { request = Code (codeAsked clients query farm); presented = noHandle }

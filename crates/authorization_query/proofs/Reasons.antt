@@ -99,7 +99,7 @@ by-decision asked Grant = refl
 by-decision asked (Refuse refusal) = refl
 
 pub asked-by : (clients : List RegisteredClient) (query : List ℕ) (decision farm : ℕ) {d : Decision}
-    → First (redirectReasons (clientNamed clients query) query decision) d
+    → First (redirectReasons (clientNamed clients query) query decision farm) d
     → requestBy (codeAsked clients query farm) d ≡ askedOf clients query decision farm
 unfolding askedOf
 asked-by clients query decision farm f = ap (requestBy (codeAsked clients query farm)) (sym (first-counts f))
@@ -121,7 +121,7 @@ module _ (registry query : List ℕ) (decision farm : ℕ) where
   abbrev client : RegisteredClient
   client = clientNamed clients query
 
-  pub read-page : (cause : PageCause) → First (pageReasons clients query ++ redirectReasons client query decision) (Refuse (PageRefusal cause))
+  pub read-page : (cause : PageCause) → First (pageReasons clients query ++ redirectReasons client query decision farm) (Refuse (PageRefusal cause))
       → Reads registry query decision farm (ErrorPage cause)
   unfolding readAuthorization unlessRefused
   read-page cause f = record { reading = rw (first-counts f); known = λ q e. let z : _≡_ {A = ℕ} 0 1 = cc in absurd (omega arith) }

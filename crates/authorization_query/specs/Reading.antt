@@ -55,7 +55,7 @@ requestBy asked (Refuse refusal) = Refused refusal
 
 unfoldable pub askedOf : List Client → List ℕ → ℕ → ℕ → Request
 askedOf clients query decision farm =
-    requestBy (codeAsked clients query farm) (firstOf (redirectReasons (clientNamed clients query) query decision))
+    requestBy (codeAsked clients query farm) (firstOf (redirectReasons (clientNamed clients query) query decision farm))
 
 -- ---- the answer
 

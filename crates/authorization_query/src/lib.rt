@@ -10,6 +10,7 @@ use form::PLACES;
 use form::Place;
 use protocol::CodeRequest;
 use protocol::ErrorWord;
+use protocol::NO_FARM;
 use protocol::PageCause;
 use protocol::Refusal;
 use protocol::Request;
@@ -18,7 +19,7 @@ ghost use mathlib.Core.Path.{_≡_};
 ghost use mathlib.Core.Bool.{true};
 ghost use Rattle.client_registry.specs.Registry.{clientsOf, fitRegistry};
 ghost use Rattle.client_registry.specs.Lookup.{clientAt, IsEntry};
-ghost use Rattle.protocol.specs.Authorization.{isBadRedirect, isInvalidRequest};
+ghost use Rattle.protocol.specs.Authorization.{isBadRedirect, isInvalidRequest, isDenied};
 ghost use Rattle.authorization_query.specs.Reading.{IsRead, Named, askedOf, Reads};
 
 // Where the known names have their places, in the order in which `read_query` gives them to the form's reader.
@@ -70,7 +71,14 @@ fn is_invalid_request(query: &[u8], places: [Place; PLACES]) -> bool
         | parameters::is_bad_state(query, state)
 }
 
-// What the query of a known client asks. The decision 1 allows, any other denies.
+// Whether the owner denies: the decision 1 allows, any other denies, and so does one for a farm that is no owner's.
+fn is_denied(decision: u64, farm: u32) -> bool
+    ensures { λ r. ⌜ r ≡ isDenied decision farm ⌝ }
+{
+    (decision != 1) | (farm == NO_FARM)
+}
+
+// What the query of a known client asks.
 fn ask(
     query: &[u8],
     places: [Place; PLACES],
@@ -95,7 +103,7 @@ fn ask(
     if !parameters::scope_fits(asked, held) {
         return Request::Refused(Refusal::Redirect(ErrorWord::InvalidScope));
     }
-    if decision != 1 {
+    if is_denied(decision, farm) {
         return Request::Refused(Refusal::Redirect(ErrorWord::AccessDenied));
     }
     let redirect = places[REDIRECT_URI];

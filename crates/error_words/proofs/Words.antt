@@ -9,7 +9,7 @@ use lib.Dec.{lit≤}
 use lib.ListN.{length, take, getD}
 use Rattle.octets.proofs.Lists.{padded-room, padded-text}
 use Rattle.protocol.specs.declared.ErrorWord.{ErrorWord}
-use Rattle.protocol.specs.declared.ErrorWord.the-variants.{InvalidRequest, InvalidClient, InvalidGrant, InvalidScope, UnsupportedGrantType, UnsupportedResponseType, AccessDenied, TemporarilyUnavailable, ServerError}
+use Rattle.protocol.specs.declared.ErrorWord.the-variants.{InvalidRequest, InvalidClient, InvalidGrant, InvalidScope, UnsupportedGrantType, UnsupportedResponseType, AccessDenied, TemporarilyUnavailable, ServerError, UnauthorizedClient}
 use Rattle.protocol.specs.Answers.{wordText, wordNumber}
 use Rattle.error_words.specs.declared.Row.{Row}
 use Rattle.error_words.specs.Table.{rowOf}
@@ -18,13 +18,13 @@ use Rattle.error_words.specs.Table.{rowOf}
 abbrev inOrder : List ErrorWord
 inOrder =
     InvalidRequest ∷ InvalidClient ∷ InvalidGrant ∷ InvalidScope ∷ UnsupportedGrantType ∷ UnsupportedResponseType ∷ AccessDenied
-    ∷ TemporarilyUnavailable ∷ ServerError ∷ []
+    ∷ TemporarilyUnavailable ∷ ServerError ∷ UnauthorizedClient ∷ []
 
 abbrev pub table : List Row
 table = map rowOf inOrder
 
 -- each word has its row there
-pub table-row : (w : ErrorWord) (d : Row) → (1 ≤ wordNumber w) × (wordNumber w ≤ 9) × (getD table (wordNumber w - 1) d ≡ rowOf w)
+pub table-row : (w : ErrorWord) (d : Row) → (1 ≤ wordNumber w) × (wordNumber w ≤ 10) × (getD table (wordNumber w - 1) d ≡ rowOf w)
 table-row InvalidRequest d = (lit≤ tt, lit≤ tt, refl)
 table-row InvalidClient d = (lit≤ tt, lit≤ tt, refl)
 table-row InvalidGrant d = (lit≤ tt, lit≤ tt, refl)
@@ -34,6 +34,7 @@ table-row UnsupportedResponseType d = (lit≤ tt, lit≤ tt, refl)
 table-row AccessDenied d = (lit≤ tt, lit≤ tt, refl)
 table-row TemporarilyUnavailable d = (lit≤ tt, lit≤ tt, refl)
 table-row ServerError d = (lit≤ tt, lit≤ tt, refl)
+table-row UnauthorizedClient d = (lit≤ tt, lit≤ tt, refl)
 
 -- the row of a word begins with it
 module _ (w : ErrorWord) {r : Row} (e : r ≡ rowOf w) where

@@ -14,7 +14,7 @@ pub const LONGEST: usize = 25;
 struct Row(u32, usize, [u8; LONGEST]);
 
 // The table, in the order of the words' numbers.
-const WORDS: [Row; 9] = [
+const WORDS: [Row; 10] = [
     Row(400, 15, *b"invalid_request          "),
     Row(401, 14, *b"invalid_client           "),
     Row(400, 13, *b"invalid_grant            "),
@@ -24,6 +24,7 @@ const WORDS: [Row; 9] = [
     Row(400, 13, *b"access_denied            "),
     Row(400, 23, *b"temporarily_unavailable  "),
     Row(400, 12, *b"server_error             "),
+    Row(400, 19, *b"unauthorized_client      "),
 ];
 
 // The number of a word over C, counted from 1.
@@ -40,6 +41,7 @@ pub fn number(word: ErrorWord) -> u32
         ErrorWord::AccessDenied => 7,
         ErrorWord::TemporarilyUnavailable => 8,
         ErrorWord::ServerError => 9,
+        ErrorWord::UnauthorizedClient => 10,
     }
 }
 

@@ -17,11 +17,11 @@ use Rattle.protocol.specs.declared.Refusal.the-variants.{Redirect, Token, Faile
 use Rattle.protocol.specs.declared.Failure.the-variants.{NoRoom, Clash}
 use Rattle.protocol.specs.declared.ScopeAsked.{ScopeAsked}
 use Rattle.protocol.specs.declared.ScopeAsked.the-variants.{Everything, Only, Unreadable}
-use Rattle.protocol.specs.declared.Request.the-variants.{Refused, Code, Exchange, Refresh}
+use Rattle.protocol.specs.declared.Request.the-variants.{Code, Exchange, Refresh, Credentials}
 use Rattle.protocol.specs.declared.Reading.{Reading}
 use Rattle.protocol.specs.Refusals.{firstOf}
-use Rattle.protocol.specs.Requests.{fits, scopeGiven, noHandle}
-use Rattle.protocol.specs.Granting.{Plan, refusedPlan, codePlan, exchangePlan, refreshPlan, planFor, planOf, decisionOn, slotsBy, slotsAfter}
+use Rattle.protocol.specs.Requests.{fits, scopeGiven, presentingNone, refusedReading}
+use Rattle.protocol.specs.Granting.{Plan, refusedPlan, codePlan, exchangePlan, refreshPlan, credentialsPlan, planFor, planOf, decisionOn, slotsBy, slotsAfter}
 use Rattle.granting.specs.declared.Granted.{Granted}
 use Rattle.granting.specs.Granted.{refusedWith, grantedWith, grantedBy}
 
@@ -44,13 +44,17 @@ slots = freeSlot ∷ code ∷ token ∷ []
 
 -- a code for farm 5 and the scope set 11, and what presents a code or a refresh token
 abbrev authorize : Bool → Reading
-authorize bound = record { request = Code (record { client = 0; farm = 5; scope = 11; bound = bound }); presented = noHandle }
+authorize bound = presentingNone (Code (record { client = 0; farm = 5; scope = 11; bound = bound }))
 
 abbrev exchange : ℕ → ℕ → Bool → Reading
 exchange client x again = record { request = Exchange (record { client = client; again = again }); presented = shown x }
 
 abbrev refresh : ℕ → ℕ → ScopeAsked → Reading
 refresh client x scope = record { request = Refresh (record { client = client; scope = scope }); presented = shown x }
+
+-- an access token for client 0 itself
+abbrev itself : Reading
+itself = presentingNone (Credentials (record { client = 0; scope = 9 }))
 
 -- the random bytes of two handles
 abbrev random : ℕ → ℕ → List ℕ
@@ -73,7 +77,7 @@ cases =
     case 1000 slots (handle 1) (authorize true) (grantedWith 11 false)
     ∷ case 1000 (code ∷ token ∷ []) (handle 1) (authorize true) (refusedWith (Redirect TemporarilyUnavailable))
     ∷ case 1000 slots (handle 8) (authorize true) (refusedWith (Redirect ServerError))
-    ∷ case 1000 slots [] (record { request = Refused (Token InvalidScope); presented = noHandle }) (refusedWith (Token InvalidScope))
+    ∷ case 1000 slots [] (refusedReading (Token InvalidScope)) (refusedWith (Token InvalidScope))
     ∷ case 1599 slots (random 1 2) (exchange 0 7 true) (grantedWith 11 true)
     -- run out; another client; the redirect address not repeated; a refresh token as a code
     ∷ case 1600 slots (random 1 2) (exchange 0 7 true) (refusedWith (Token InvalidGrant))
@@ -95,13 +99,18 @@ cases =
     ∷ case 1000 (code ∷ token ∷ []) (random 1 2) (refresh 0 8 Everything) (refusedWith (Failed NoRoom))
     ∷ case 1000 slots (random 1 1) (refresh 0 8 Everything) (grantedWith 11 false)
     ∷ case 1000 slots (random 8 1) (refresh 0 8 Everything) (refusedWith (Failed Clash))
+    -- the client for itself; no slot; the second handle is ignored, the first is not
+    ∷ case 1000 slots (random 1 2) itself (grantedWith 9 false)
+    ∷ case 1000 (code ∷ token ∷ []) (random 1 2) itself (refusedWith (Failed NoRoom))
+    ∷ case 1000 slots (random 1 8) itself (grantedWith 9 false)
+    ∷ case 1000 slots (random 8 1) itself (refusedWith (Failed Clash))
     ∷ []
 
 abbrev planIn : Case → Plan
 planIn c = planOf (c .t) (c .slots) (c .random) (c .reading)
 
 pub cases-hold : map (λ c. grantedBy (decisionOn (planIn c)) (planIn c)) cases ≡ map (λ c. c .answer) cases
-unfolding grantedBy firstOf planFor refusedPlan codePlan exchangePlan refreshPlan fits scopeGiven count any firstOr replaceFirst same freeSlot
+unfolding grantedBy firstOf planFor refusedPlan codePlan exchangePlan refreshPlan credentialsPlan fits scopeGiven count any firstOr replaceFirst same freeSlot
 cases-hold = refl
 
 -- a code is bound where redirect_uri was given
@@ -118,6 +127,12 @@ pub exchange-leaves : slotsAfter (planOf 1000 slots (random 1 2) (exchange 0 7 t
     ∷ []
 unfolding slotsBy firstOf planFor exchangePlan count any firstOr replaceFirst same freeSlot
 exchange-leaves = refl
+
+-- a client's token for itself is an access token for farm 0
+pub itself-leaves : slotsAfter (planOf 1000 slots (random 1 2) itself)
+    ≡ record { kind = kindAccess; handle = handle 1; client = 0; farm = 0; scope = 9; expiry = 4600 } ∷ code ∷ token ∷ []
+unfolding slotsBy firstOf planFor credentialsPlan count any firstOr replaceFirst same freeSlot
+itself-leaves = refl
 
 -- a refused try keeps the code
 pub refusal-keeps : slotsAfter (planOf 1000 slots (random 1 2) (exchange 1 7 true)) ≡ slots

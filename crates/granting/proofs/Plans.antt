@@ -1,13 +1,13 @@
 -- Laws of the steps of a grant, and of what follows from a plan (protocol's Granting.antt).
 --
 -- In order: what the search for the client's own code or token says; room besides the slot of a live code; the two kinds of a
--- code; what follows from a plan's reasons, where one applies and where none does.
+-- code; what follows from a plan's reasons, where one applies, where none does, and where others are passed before them.
 --
 -- Not here: how a list of reasons ends (protocol's `Reasons`).
 -- Assumes nothing.
 use mathlib.Core.Path.{_≡_, refl, sym, ap, _∙_}
 use mathlib.Core.Bool.{Bool, true, false, cond, _&&_}
-use mathlib.Core.List.{List}
+use mathlib.Core.List.{List, _++_}
 use Prim.Native.Nat.{ℕ, suc, _≤_}
 use native.Mathlib.Omega.{arith}
 use lib.Dec.{eqb, leb, lit≤, leb·suc-suc}
@@ -27,7 +27,8 @@ use Rattle.token_store.proofs.Scans.{First as FirstSlot, found-first, found-non
 use Rattle.protocol.specs.declared.Refusal.{Refusal}
 use Rattle.protocol.specs.declared.Decision.{Decision}
 use Rattle.protocol.specs.declared.Decision.the-variants.{Grant, Refuse}
-use Rattle.protocol.specs.Granting.{Plan, decisionOn, slotsBy, shownSlot, isOwn, room, withoutCode}
+use Rattle.protocol.specs.Refusals.{Reason}
+use Rattle.protocol.specs.Granting.{Plan, afterReasons, decisionOn, slotsBy, shownSlot, isOwn, room, withoutCode}
 use Rattle.protocol.proofs.Reasons.{First, first-counts}
 use Rattle.granting.specs.declared.Granted.{Granted}
 use Rattle.granting.specs.Granted.{refusedWith, grantedWith, grantedBy, Follows, ownAt}
@@ -101,6 +102,26 @@ module _ {plan : Plan} {before : Store} {r : Granted} where
       → Follows plan before r after
   unfolding grantedBy slotsBy
   grants f a e = record { answer = rw (first-counts f) a; store = rw (first-counts f) e }
+
+-- reasons that are passed leave what follows from the plan behind them
+module _ {plan : Plan} {before after : Store} {r : Granted} where
+  pub follows-later : (rs : List Reason) → First (rs ++ plan .reasons) (decisionOn plan)
+      → Follows plan before r after → Follows (afterReasons rs plan) before r after
+  unfolding grantedBy slotsBy
+  follows-later rs past f =
+      let same : decisionOn plan ≡ decisionOn (afterReasons rs plan) = sym (first-counts past) in
+      record {
+        answer = f .answer ∙ answers (decisionOn plan) ∙ ap (λ (d : Decision). grantedBy d (afterReasons rs plan)) same;
+        store = f .store ∙ ap (withSlots before) (slots (decisionOn plan) ∙ ap (λ (d : Decision). slotsBy d (afterReasons rs plan)) same);
+      }
+    where
+      answers : (d : Decision) → grantedBy d plan ≡ grantedBy d (afterReasons rs plan)
+      answers Grant = refl
+      answers (Refuse refusal) = refl
+
+      slots : (d : Decision) → slotsBy d plan ≡ slotsBy d (afterReasons rs plan)
+      slots Grant = refl
+      slots (Refuse refusal) = refl
 
 -- what is decided, of what was granted
 pub follows-decision : {plan : Plan} {before : Store} {r : Granted} {after : Store} → Follows plan before r after → r .decision ≡ decisionOn plan

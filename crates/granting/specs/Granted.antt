@@ -16,7 +16,7 @@ use Rattle.protocol.specs.declared.Refusal.{Refusal}
 use Rattle.protocol.specs.declared.Decision.{Decision}
 use Rattle.protocol.specs.declared.Decision.the-variants.{Grant, Refuse}
 use Rattle.protocol.specs.declared.Request.{Request}
-use Rattle.protocol.specs.declared.Request.the-variants.{Refused, Code, Exchange, Refresh}
+use Rattle.protocol.specs.declared.Request.the-variants.{Refused, Code, Exchange, Refresh, Credentials}
 use Rattle.protocol.specs.Limits.{codeRandom, tokenRandom}
 use Rattle.protocol.specs.Granting.{Plan, decisionOn, slotsAfter, shownSlot, isOwn, tokenOn}
 use Rattle.granting.specs.declared.Granted.{Granted}
@@ -45,6 +45,7 @@ randomNeeded (Refused refusal) = 0
 randomNeeded (Code r) = codeRandom
 randomNeeded (Exchange r) = tokenRandom
 randomNeeded (Refresh r) = tokenRandom
+randomNeeded (Credentials r) = tokenRandom
 
 -- ---- steps of a grant
 

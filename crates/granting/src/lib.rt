@@ -4,10 +4,12 @@
 // nothing. It takes the call's time t, which no clock moves back, and never a clock.
 use encoding::HandleText;
 use protocol::CodeRequest;
+use protocol::CredentialsRequest;
 use protocol::Decision;
 use protocol::ErrorWord;
 use protocol::ExchangeRequest;
 use protocol::Failure;
+use protocol::NO_FARM;
 use protocol::Reading;
 use protocol::RefreshRequest;
 use protocol::Refusal;
@@ -27,7 +29,7 @@ ghost use lib.ListN.{length, set};
 ghost use Rattle.token_store.specs.Layout.{storeSize, slotCount, latestTime};
 ghost use Rattle.token_store.specs.Store.{decode, withSlots, freeSlot, kindCode, kindBoundCode, kindLast, lifetimeOf};
 ghost use Rattle.protocol.specs.Limits.{codeRandom, tokenRandom};
-ghost use Rattle.protocol.specs.Granting.{newCode, tokenOn, anyTaken, codePlan, exchangePlan, refreshPlan, planOf};
+ghost use Rattle.protocol.specs.Granting.{newCode, tokenOn, clientToken, anyTaken, singlePlan, accessPlan, codePlan, exchangePlan, refreshPlan, credentialsPlan, planOf};
 ghost use Rattle.granting.specs.Granted.{refusedWith, grantedWith, Follows, randomNeeded, ownAt, spentOn};
 
 // What a request comes to: the decision; with a grant the scope of what is issued, and whether a refresh token comes
@@ -107,6 +109,25 @@ fn token_on(origin: Slot, t: u64, kind: u8, handle: [u8; HANDLE_SIZE], scope: u8
     }
 }
 
+// The access token that is issued to a client for itself: no owner allowed a farm.
+fn client_token(t: u64, handle: [u8; HANDLE_SIZE], request: CredentialsRequest) -> Slot
+    requires { ⌜ t ≤ latestTime ⌝ }
+    ensures { λ r. ⌜ r ≡ clientToken t handle request ⌝ }
+{
+    let client = request.client;
+    let scope = request.scope;
+    let kind = KIND_ACCESS;
+    let expiry = expiry_at(t, kind);
+    Slot {
+        kind,
+        handle,
+        client,
+        farm: NO_FARM,
+        scope,
+        expiry,
+    }
+}
+
 // ---- what is looked at
 
 // The slot of the code or refresh token presented, where it is live at t and the client's own.
@@ -136,6 +157,40 @@ fn any_clash(store: &[u8], first: &[u8], second: &[u8]) -> bool
 
 // ---- grants
 
+// Issues one code or token, unless there is no slot for it or its handle is in use.
+fn grant_single(store: &mut [u8], t: u64, new: Slot, full: Refusal, clash: Refusal) -> Granted
+    requires { ⌜ length (now store) ≡ storeSize ⌝ }
+    ensures { λ r.
+        let before = decode (now (store .entry)) in
+        ⌜ Follows (singlePlan t (before .slots) full clash new) before r (decode (now (store .exit))) ⌝ }
+{
+    if !token_store::has_room(store, t, 1) {
+        return refused(full);
+    }
+    let handle = new.handle;
+    if token_store::clashes(store, &handle) {
+        return refused(clash);
+    }
+    token_store::issue(store, t, new);
+    issued(new.scope, false)
+}
+
+// Issues one access token.
+fn grant_access(store: &mut [u8], t: u64, token: Slot) -> Granted
+    requires { ⌜ length (now store) ≡ storeSize ⌝ }
+    ensures { λ r.
+        let before = decode (now (store .entry)) in
+        ⌜ Follows (accessPlan t (before .slots) token) before r (decode (now (store .exit))) ⌝ }
+{
+    grant_single(
+        store,
+        t,
+        token,
+        Refusal::Failed(Failure::NoRoom),
+        Refusal::Failed(Failure::Clash),
+    )
+}
+
 // Issues a code.
 fn grant_code(store: &mut [u8], t: u64, random: &[u8], request: CodeRequest) -> Granted
     requires { ⌜ (length (now store) ≡ storeSize) × (t ≤ latestTime) × (codeRandom ≤ length (now random)) ⌝ }
@@ -143,15 +198,14 @@ fn grant_code(store: &mut [u8], t: u64, random: &[u8], request: CodeRequest) -> 
         let before = decode (now (store .entry)) in
         ⌜ Follows (codePlan t (before .slots) (now (random .entry)) request) before r (decode (now (store .exit))) ⌝ }
 {
-    if !token_store::has_room(store, t, 1) {
-        return refused(Refusal::Redirect(ErrorWord::TemporarilyUnavailable));
-    }
     let handle = token_store::handle_at(random, 0);
-    if token_store::clashes(store, &handle) {
-        return refused(Refusal::Redirect(ErrorWord::ServerError));
-    }
-    token_store::issue(store, t, new_code(t, handle, request));
-    issued(request.scope, false)
+    grant_single(
+        store,
+        t,
+        new_code(t, handle, request),
+        Refusal::Redirect(ErrorWord::TemporarilyUnavailable),
+        Refusal::Redirect(ErrorWord::ServerError),
+    )
 }
 
 // Clears the slot of a code, then issues an access and a refresh token on it.
@@ -228,16 +282,25 @@ fn grant_refresh(
     if !parameters::scope_fits(asked, token.scope) {
         return refused(Refusal::Token(ErrorWord::InvalidScope));
     }
-    if !token_store::has_room(store, t, 1) {
-        return refused(Refusal::Failed(Failure::NoRoom));
-    }
-    let handle = token_store::handle_at(random, 0);
-    if token_store::clashes(store, &handle) {
-        return refused(Refusal::Failed(Failure::Clash));
-    }
     let scope = parameters::scope_given(asked, token.scope);
-    token_store::issue(store, t, token_on(token, t, KIND_ACCESS, handle, scope));
-    issued(scope, false)
+    let handle = token_store::handle_at(random, 0);
+    grant_access(store, t, token_on(token, t, KIND_ACCESS, handle, scope))
+}
+
+// Issues an access token to a client for itself. Of the random bytes the first handle is looked at.
+fn grant_credentials(
+    store: &mut [u8],
+    t: u64,
+    random: &[u8],
+    request: CredentialsRequest,
+) -> Granted
+    requires { ⌜ (length (now store) ≡ storeSize) × (t ≤ latestTime) × (tokenRandom ≤ length (now random)) ⌝ }
+    ensures { λ r.
+        let before = decode (now (store .entry)) in
+        ⌜ Follows (credentialsPlan t (before .slots) (now (random .entry)) request) before r (decode (now (store .exit))) ⌝ }
+{
+    let handle = token_store::handle_at(random, 0);
+    grant_access(store, t, client_token(t, handle, request))
 }
 
 // Grants what a call asks, or refuses it. A call that was refused as it was read stays so.
@@ -254,5 +317,6 @@ pub fn grant(store: &mut [u8], t: u64, random: &[u8], reading: Reading) -> Grant
         Request::Code(code) => grant_code(store, t, random, code),
         Request::Exchange(exchange) => grant_exchange(store, t, random, presented, exchange),
         Request::Refresh(refresh) => grant_refresh(store, t, random, presented, refresh),
+        Request::Credentials(credentials) => grant_credentials(store, t, random, credentials),
     }
 }

@@ -22,7 +22,7 @@ use Rattle.token_store.specs.Fit.{fitStore}
 use Rattle.token_store.specs.declared.Slot.{Slot}
 use Rattle.token_store.specs.declared.Sought.the-variants.{Access}
 use Rattle.protocol.specs.declared.ErrorWord.{ErrorWord}
-use Rattle.protocol.specs.declared.ErrorWord.the-variants.{InvalidRequest, InvalidClient, InvalidGrant, InvalidScope, UnsupportedGrantType, UnsupportedResponseType, AccessDenied, TemporarilyUnavailable, ServerError}
+use Rattle.protocol.specs.declared.ErrorWord.the-variants.{InvalidRequest, InvalidClient, InvalidGrant, InvalidScope, UnsupportedGrantType, UnsupportedResponseType, AccessDenied, TemporarilyUnavailable, ServerError, UnauthorizedClient}
 use Rattle.protocol.specs.declared.Input.{Input}
 use Rattle.protocol.specs.declared.Input.the-variants.{Buffers, Registry, Store as StoreInput, Clock}
 use Rattle.protocol.specs.declared.PageCause.the-variants.{Query}
@@ -32,7 +32,7 @@ use Rattle.protocol.specs.declared.Refusal.the-variants.{Unfit, ErrorPage, Redi
 use Rattle.protocol.specs.declared.Decision.{Decision}
 use Rattle.protocol.specs.declared.Decision.the-variants.{Grant, Refuse}
 use Rattle.protocol.specs.declared.Request.{Request}
-use Rattle.protocol.specs.declared.Request.the-variants.{Refused, Code, Exchange, Refresh}
+use Rattle.protocol.specs.declared.Request.the-variants.{Refused, Code, Exchange, Refresh, Credentials}
 use Rattle.protocol.specs.declared.Reading.{Reading}
 use Rattle.protocol.specs.declared.LiveToken.{LiveToken}
 use Rattle.protocol.specs.declared.CheckAnswer.the-variants.{NotLive, Live}
@@ -42,7 +42,7 @@ use Rattle.protocol.specs.Refusals.{Reason, firstOf}
 use Rattle.protocol.specs.Requests.{refusedReading}
 use Rattle.protocol.specs.Authorization.{readAuthorization}
 use Rattle.protocol.specs.Token.{readToken}
-use Rattle.protocol.specs.Granting.{Plan, shownSlot, liveToken, refusedPlan, codePlan, exchangePlan, refreshPlan, planFor, planOf, decisionOn, slotsBy, slotsAfter, checkSlots}
+use Rattle.protocol.specs.Granting.{Plan, shownSlot, liveToken, refusedPlan, codePlan, exchangePlan, refreshPlan, credentialsPlan, planFor, planOf, decisionOn, slotsBy, slotsAfter, checkSlots}
 use Rattle.protocol.specs.Outcomes.{unfitReasons, Handed, Endpoint, Outcome, admit, outcomeBy, outcome, unfitBuffers, serveAuthorization, authorizationEndpoint, serveToken, tokenEndpoint, serveCheck, checkEndpoint, clockAlone}
 use Rattle.history.specs.Calls.{Call, authorization, token, check, handedTo, WellTyped}
 use Rattle.history.specs.Server.{Answer, authorizationAnswer, tokenAnswer, checkAnswer, answering, outcomeOf, isUnfitRefusal, isUnfitDecision, isUnfitCheck, isUnfit, isGranted}
@@ -186,7 +186,7 @@ call-brings clients fit (authorization query decision farm handed) typed e =
     let size = fit-size codeRandom handed e in
     let one : OneHandle (handed .random) (handed .random ∷ []) = record { size = size; small = typed .1; handles = rw (take-all 20 (handed .random) (omega arith)) } in
     authorization-brings clients fit one query decision farm (typed .0)
-call-brings clients fit (token header body handed) typed e = token-brings clients (two-handles handed typed e) header body
+call-brings clients fit (token header body handed) typed e = token-brings clients fit (two-handles handed typed e) header body
 call-brings clients fit (check presented clock) typed e = refl
 
 -- ---- a call that is served, as the plan of its request
@@ -202,6 +202,7 @@ word-status UnsupportedResponseType = refl
 word-status AccessDenied = refl
 word-status TemporarilyUnavailable = refl
 word-status ServerError = refl
+word-status UnauthorizedClient = refl
 
 failure-status : (f : Failure) → eqb (failureStatus f) 200 ≡ false
 failure-status NoRoom = refl
@@ -219,11 +220,12 @@ status-grant (Refuse (Failed f)) = failure-status f
 -- what is decided is no refusal with 1 to 4
 plan-fit : (clients : ℕ) (twenties : List (List ℕ)) (t : ℕ) (slots : List Slot) (random : List ℕ) (p : HandleText) (request : Request)
     → Brings clients random twenties request → isUnfitDecision (decisionOn (planFor t slots random p request)) ≡ false
-unfolding planFor refusedPlan codePlan exchangePlan refreshPlan Brings isUnfitDecision isUnfitRefusal
+unfolding planFor refusedPlan codePlan exchangePlan refreshPlan credentialsPlan Brings isUnfitDecision isUnfitRefusal
 plan-fit clients twenties t slots random p (Refused r) q = decided (λ d. isUnfitDecision d ≡ false) _ (q, tt) (λ _. refl)
 plan-fit clients twenties t slots random p (Code r) q = decided (λ d. isUnfitDecision d ≡ false) _ (refl, (refl, tt)) (λ _. refl)
 plan-fit clients twenties t slots random p (Exchange r) q = decided (λ d. isUnfitDecision d ≡ false) _ (refl, (refl, (refl, (refl, tt)))) (λ _. refl)
 plan-fit clients twenties t slots random p (Refresh r) q = decided (λ d. isUnfitDecision d ≡ false) _ (refl, (refl, (refl, (refl, tt)))) (λ _. refl)
+plan-fit clients twenties t slots random p (Credentials r) q = decided (λ d. isUnfitDecision d ≡ false) _ (refl, (refl, tt)) (λ _. refl)
 
 refused-keeps : (plan : Plan) → isGrant (decisionOn plan) ≡ false → slotsAfter plan ≡ plan .denied
 unfolding slotsBy isGrant

@@ -34,13 +34,13 @@ use Rattle.protocol.specs.Refusals.{firstOf}
 use Rattle.protocol.specs.Requests.{askedBy, scopeAsked, fits, scopeGiven, unlessRefused}
 use Rattle.protocol.specs.Authorization.{isBadQuery, queryClient, isBadClient, isBadRedirect, isSoundState, isBadState, isInvalidRequest, isOtherType, isInvalidScope, codeAsked, pageReasons, redirectReasons, readAuthorization, separator, stateText, location, codeParameter, errorParameter, locationText}
 use Rattle.protocol.specs.ClientForms.{isInvalidForm, lowerCase, sameAnyCase, credentials, isBadHeader, headerId, headerSecret, presentedId, presentedSecret, isUnclearId, isImpostor, callClient, isInvalidClient, formReasons}
-use Rattle.protocol.specs.Token.{readExchange, readRefresh, readGrant, readToken, errorReply, refusalReply, tokenReply, refreshMember}
-use Rattle.protocol.specs.Granting.{refusedPlan, codePlan, exchangePlan, refreshPlan, planFor, planOf, decisionOn, slotsBy, checkSlots}
+use Rattle.protocol.specs.Token.{readExchange, readRefresh, readCredentials, readGrant, readToken, errorReply, refusalReply, tokenReply, refreshMember}
+use Rattle.protocol.specs.Granting.{refusedPlan, codePlan, exchangePlan, refreshPlan, credentialsPlan, planFor, planOf, decisionOn, slotsBy, checkSlots}
 use Rattle.protocol.specs.Outcomes.{Handed, serveAuthorization, replyText, serveToken, serveCheck}
 use Rattle.protocol.proofs.Starred.{countUp, rfcQuery}
 use Rattle.history.specs.Calls.{Call, authorization, token, check, handedTo, Result}
-use Rattle.history.specs.Contents.{Sort, code, access, refresh, Issue, noIssue, isExchange, isRefresh, noneBeyond, isWithinGranted, namesOr, askedOr, codeIssue, exchangeIssues, refreshIssues, issuedBy, isEndedBy, standingAfter, Contents, nothingYet, withEvent, withEvents, twenties}
-use Rattle.history.specs.Claim.{idIn, isAdmitted, isRepeatedBy, mayExchange, mayRefresh, mayPass}
+use Rattle.history.specs.Contents.{Sort, code, access, refresh, Issue, noIssue, isExchange, isRefresh, isCredentials, noneBeyond, isWithinGranted, namesOr, askedOr, idIn, codeIssue, exchangeIssues, refreshIssues, ownIssue, issuedBy, isEndedBy, standingAfter, Contents, nothingYet, withEvent, withEvents, twenties}
+use Rattle.history.specs.Claim.{isAdmitted, isRepeatedBy, mayExchange, mayRefresh, mayHaveOwn, mayPass}
 use Rattle.history.specs.Server.{isUnfitRefusal, isUnfitDecision, isUnfitCheck, isUnfit, isGranted, lengthOf, isLiveCheck, namedBy, isPassed, namedIn}
 use Rattle.history.proofs.AnyCall.{outcomeOn, asked, unfitTo}
 use Rattle.history.proofs.CallsOnRecords.{resultOn, leftByAll, eventsOn, isFitting}
@@ -114,6 +114,16 @@ againText = bytes "606162636465666768696a6b6c6d6e6f70717273"
 unfoldable pub lessText : List ℕ
 lessText = bytes "030405060708090a0b0c0d0e0f10111213141516"
 
+-- a client's request for itself, and the texts of two
+unfoldable pub ownFor : List ℕ → List ℕ
+ownFor scope = bytes "grant_type=client_credentials" ++ scope
+
+unfoldable pub ownText : List ℕ
+ownText = bytes "a0a1a2a3a4a5a6a7a8a9aaabacadaeafb0b1b2b3"
+
+unfoldable pub lessOwnText : List ℕ
+lessOwnText = bytes "28292a2b2c2d2e2f303132333435363738393a3b"
+
 -- calls of every kind. Those refused with 1 to 4 have random bytes that came before, and the highest clock.
 unfoldable pub day : List Call
 day =
@@ -131,6 +141,15 @@ day =
     ∷ check accessText (2 ^ 40 + 1)  -- a clock too late
     ∷ authorization barnQuery 1 9 (handedAt 1505 20 0x80)
     ∷ authorization lessQuery 1 7 (handedAt 1506 20 3)
+    ∷ []
+
+-- the first client asks for itself, for its whole set and for less; one that asks for more, and a public one, are refused
+unfoldable pub pumps : List Call
+pumps =
+    tokenAt header (ownFor []) 1000 0xA0
+    ∷ tokenAt header (ownFor (bytes "&scope=bill")) 1001 0x28
+    ∷ tokenAt header (ownFor (bytes "&scope=pump")) 1002 0x50
+    ∷ tokenAt [] (ownFor (bytes "&client_id=barnapp")) 1003 0x78
     ∷ []
 
 -- ---- the cases
@@ -190,6 +209,24 @@ cases =
           ∷ no (check accessText 5100)  -- 1500 and 3,600
           ∷ yes (check againText 5101)
           ∷ no (check refreshText 1510)  -- a refresh token is no access token
+          ∷ no (asking header (bytes "grant_type=authorization_code") 1510)  -- no code
+          ∷ no (asking header (bytes "grant_type=refresh_token") 1510)  -- no refresh token
+          ∷ [];
+    }
+    ∷ record {
+      calls = pumps;
+      judged =
+          yes (asking header (ownFor []) 1510)
+          ∷ yes (asking header (ownFor (bytes "&scope=bill+peak+power")) 1510)  -- its whole set
+          ∷ no (asking header (ownFor (bytes "&scope=bill+peak+power+pump")) 1510)  -- beyond it
+          ∷ no (asking header (ownFor (bytes "&scope=power++bill")) 1510)  -- bad form
+          ∷ no (asking [] (ownFor (bytes "&client_id=barnapp")) 1510)  -- public
+          ∷ no (asking [] (ownFor (bytes "&client_id=barnapp&scope=power")) 1510)
+          ∷ yes (check ownText 4599)
+          ∷ no (check ownText 4600)  -- 1000 and 3,600
+          ∷ yes (check lessOwnText 4600)
+          ∷ no (asking header (repeating ownText) 1510)  -- an access token is no code
+          ∷ no (asking header (refreshFor ownText []) 1510)  -- nor a refresh token
           ∷ [];
     }
     ∷ []
@@ -205,7 +242,8 @@ unfoldable pub may : Contents → Call → Bool
 may c (authorization query decision farm handed) = false
 may c (token h b handed) =
     let t = max (handed .clock) (c .highest) in
-    cond (isExchange b) (mayExchange sampleClients t (c .standing) h b) (mayRefresh sampleClients t (c .standing) h b)
+    cond (isExchange b) (mayExchange sampleClients t (c .standing) h b)
+    (cond (isRefresh b) (mayRefresh sampleClients t (c .standing) h b) (mayHaveOwn sampleClients t (c .standing) h b))
 may c (check presented clock) = mayPass (max clock (c .highest)) (c .standing) presented
 
 -- the call is one of those that the claim speaks of
@@ -216,7 +254,7 @@ isTyped (check presented clock) = true
 
 unfoldable pub isAsked : Call → Bool
 isAsked (authorization query decision farm handed) = false
-isAsked (token h b handed) = isAdmitted (readToken sampleClients h b .request) && (isExchange b || isRefresh b)
+isAsked (token h b handed) = isAdmitted sampleClients h b && (isExchange b || (isRefresh b || isCredentials b))
 isAsked (check presented clock) = true
 
 unfoldable pub isJudged : Contents → Call → Bool
@@ -315,6 +353,26 @@ inEvening = record {
   randoms = countUp 20 0xC0 ∷ countUp 20 0xD4 ∷ inDay .randoms;
 }
 
+-- the first client's tokens for itself
+unfoldable pub ownUntil : List ℕ → ℕ → ℕ → Issue
+ownUntil text scope expiry = record { sort = access; text = text; client = 0; farm = 0; scope = scope; address = missing; expiry = expiry }
+
+unfoldable pub inPumps : Contents
+inPumps = record {
+  highest = 1003;
+  standing = ownUntil lessOwnText 8 4601 ∷ ownUntil ownText 11 4600 ∷ [];
+  randoms =
+      countUp 20 0x78
+      ∷ countUp 20 0x8C
+      ∷ countUp 20 0x50
+      ∷ countUp 20 0x64
+      ∷ countUp 20 0x28
+      ∷ countUp 20 0x3C
+      ∷ countUp 20 0xA0
+      ∷ countUp 20 0xB4
+      ∷ [];
+}
+
 -- ---- room: so many live access tokens stand beside the code or refresh token
 
 unfoldable pub beside : ℕ → Issue → List Issue
@@ -324,6 +382,7 @@ unfoldable pub mayBeside : ℕ → List Bool
 mayBeside n =
     mayExchange sampleClients 1001 (beside n (codeUntil codeText 11 1600)) header (repeating codeText)
     ∷ mayRefresh sampleClients 1001 (beside n (tokenUntil refresh refreshText 11 2593000)) header (refreshFor refreshText [])
+    ∷ mayHaveOwn sampleClients 1001 (beside n (tokenUntil refresh refreshText 11 2593000)) header (ownFor [])
     ∷ []
 
 -- the same by the 512 slots of a store
@@ -339,6 +398,7 @@ unfoldable pub doneBeside : ℕ → List Decision
 doneBeside n =
     decidedBeside n (slotUntil kindBoundCode (countUp 20 0) 1600) (repeating codeText)
     ∷ decidedBeside n (slotUntil kindRefresh (countUp 20 0x34) 2593000) (refreshFor refreshText [])
+    ∷ decidedBeside n (slotUntil kindRefresh (countUp 20 0x34) 2593000) (ownFor [])
     ∷ []
 
 -- ---- all that, computed
@@ -362,9 +422,11 @@ pub record Computed : Type 0 where
       }
   pub day-contains : containedIn day ≡ inDay
   pub evening-contains : containedIn evening ≡ inEvening
+  pub pumps-contain : containedIn pumps ≡ inPumps
   pub visit-typed : every isTyped visit ≡ true
   pub day-typed : every isTyped day ≡ true
   pub evening-typed : every isTyped evening ≡ true
+  pub pumps-typed : every isTyped pumps ≡ true
   -- why the claim asks that random bytes never come twice: an exchange in time that brings those of its code gets 500
   pub clash : let again = tokenAt header (repeating codeText) 1510 0 in
       may inVisit again ∷ yields again (resultOn sampleClients (leftIn visit) again) ∷ isJudged inVisit again ∷ [] ≡ true ∷ false ∷ false ∷ []
@@ -375,11 +437,12 @@ pub record Computed : Type 0 where
   pub code-kept : part (encodeStore (leftIn day)) (8 + 4 * 35) 35
       ≡ 2 ∷ countUp 20 3 ++ 0 ∷ 0 ∷ 0 ∷ 0 ∷ 7 ∷ 10 ∷ 0 ∷ 0 ∷ 0 ∷ 0 ∷ 0 ∷ 0 ∷ 8 ∷ 58 ∷ []
   -- 510, and two or one more, are 512
-  pub room-asked : mayBeside 510 ++ mayBeside 511 ≡ true ∷ true ∷ false ∷ false ∷ []
-  pub room-found : doneBeside 510 ++ doneBeside 511 ≡ Grant ∷ Grant ∷ Refuse (Failed NoRoom) ∷ Refuse (Failed NoRoom) ∷ []
+  pub room-asked : mayBeside 510 ++ mayBeside 511 ≡ true ∷ true ∷ true ∷ false ∷ false ∷ false ∷ []
+  pub room-found : doneBeside 510 ++ doneBeside 511
+      ≡ Grant ∷ Grant ∷ Grant ∷ Refuse (Failed NoRoom) ∷ Refuse (Failed NoRoom) ∷ Refuse (Failed NoRoom) ∷ []
 
 pub computed : Computed
-unfolding encodeStore encodeSlot concat bigEndianBytes redirect codeUntil tokenUntil barnCode inVisit inDay barnBody evening barnToken barnAccess inEvening beside mayBeside slotUntil decidedBeside doneBeside yields may isTyped isAsked isJudged leftIn containedIn claimAgrees agreesOn agrees cases day visit night handedAt authorizeAt header exchangeOf repeating byBarnapp tokenAt codeText accessText refreshText exchangeAt refreshFor barnQuery lessQuery barnText againText lessText rfcQuery handedTo asked outcomeOn unfitTo leftByAll eventsOn isFitting isUnfitRefusal isUnfitDecision isUnfitCheck isUnfit isGranted lengthOf isLiveCheck namedBy isPassed namedIn noIssue noneBeyond isWithinGranted namesOr askedOr codeIssue exchangeIssues refreshIssues issuedBy isEndedBy standingAfter withEvent withEvents twenties idIn isAdmitted isRepeatedBy mayExchange mayRefresh mayPass distinct keep count any firstOr replaceFirst freeSlot fresh every same indexOf splitOn grow hexText hexDigit hexValue readHandle isHandleText unhex isBase64 base64Bytes groupBytes soundGroup sextet none decodeAfter firstByte extra isEscape plain wellFormed sound encode encodeByte isWellFormedForm pieceName pieceValue gives add valueIn formValue names bitFrom bitOf union readScope chosen spaced scopeText indexWhere sampleClients sampleConfidential samplePublic isGrant wordText isMissing isRepeated onlyValue isOnce askedBy scopeAsked fits scopeGiven isBadQuery queryClient isBadClient isBadRedirect isSoundState isBadState isInvalidRequest isOtherType isInvalidScope codeAsked pageReasons redirectReasons readAuthorization separator stateText location codeParameter errorParameter locationText isInvalidForm lowerCase sameAnyCase credentials isBadHeader headerId headerSecret presentedId presentedSecret isUnclearId isImpostor callClient isInvalidClient formReasons readExchange readRefresh readGrant readToken errorReply refusalReply tokenReply refreshMember firstOf unlessRefused refusedPlan codePlan exchangePlan refreshPlan planFor slotsBy checkSlots serveAuthorization replyText serveToken serveCheck
+unfolding ownFor ownText lessOwnText pumps ownUntil inPumps encodeStore encodeSlot concat bigEndianBytes redirect codeUntil tokenUntil barnCode inVisit inDay barnBody evening barnToken barnAccess inEvening beside mayBeside slotUntil decidedBeside doneBeside yields may isTyped isAsked isJudged leftIn containedIn claimAgrees agreesOn agrees cases day visit night handedAt authorizeAt header exchangeOf repeating byBarnapp tokenAt codeText accessText refreshText exchangeAt refreshFor barnQuery lessQuery barnText againText lessText rfcQuery handedTo asked outcomeOn unfitTo leftByAll eventsOn isFitting isUnfitRefusal isUnfitDecision isUnfitCheck isUnfit isGranted lengthOf isLiveCheck namedBy isPassed namedIn noIssue noneBeyond isWithinGranted namesOr askedOr codeIssue exchangeIssues refreshIssues ownIssue issuedBy isEndedBy standingAfter withEvent withEvents twenties idIn isAdmitted isRepeatedBy mayExchange mayRefresh mayHaveOwn mayPass distinct keep count any firstOr replaceFirst freeSlot fresh every same indexOf splitOn grow hexText hexDigit hexValue readHandle isHandleText unhex isBase64 base64Bytes groupBytes soundGroup sextet none decodeAfter firstByte extra isEscape plain wellFormed sound encode encodeByte isWellFormedForm pieceName pieceValue gives add valueIn formValue names bitFrom bitOf union readScope chosen spaced scopeText indexWhere sampleClients sampleConfidential samplePublic isGrant wordText isMissing isRepeated onlyValue isOnce askedBy scopeAsked fits scopeGiven isBadQuery queryClient isBadClient isBadRedirect isSoundState isBadState isInvalidRequest isOtherType isInvalidScope codeAsked pageReasons redirectReasons readAuthorization separator stateText location codeParameter errorParameter locationText isInvalidForm lowerCase sameAnyCase credentials isBadHeader headerId headerSecret presentedId presentedSecret isUnclearId isImpostor callClient isInvalidClient formReasons readExchange readRefresh readCredentials readGrant readToken errorReply refusalReply tokenReply refreshMember firstOf unlessRefused refusedPlan codePlan exchangePlan refreshPlan credentialsPlan planFor slotsBy checkSlots serveAuthorization replyText serveToken serveCheck
 computed = record {
   cases-agree = refl;
   visit-contains = refl;
@@ -387,9 +450,11 @@ computed = record {
   twice-contain = refl;
   day-contains = refl;
   evening-contains = refl;
+  pumps-contain = refl;
   visit-typed = refl;
   day-typed = refl;
   evening-typed = refl;
+  pumps-typed = refl;
   clash = refl;
   code-granted = refl;
   barn-granted = refl;

@@ -1,4 +1,4 @@
--- Demand 3, proved: the theorem is `demand3` in Theorem. Demand 1, proved: the theorem is `demand1` in AnyStore.
+-- Demand 3, proved: the theorem is `demand3` in Theorem, with `credentials-yield` beyond it. Demand 1, proved: the theorem is `demand1` in AnyStore.
 --
 -- Read Theorem first, then down: AllCalls (every list of calls), Shown (what the claim reads from a call is what it issued), AnyCall
 -- (one call on bytes), OneRequest (one request on slots), Invariant (the idea, over the slots of HeldIssues). Readings, SoundStores and
@@ -11,10 +11,10 @@ pub mod Readings
 pub mod OneRequest
 pub mod SoundStores
 pub mod AnyCall
+pub mod Asking
 pub mod Written
 pub mod Shown
 pub mod AllCalls
-pub mod Asking
 pub mod Theorem
 pub mod AnyStore
 pub mod Meaning

@@ -33,7 +33,8 @@ use Rattle.history.specs.Server.{outcomeOf, resultOf, ours}
 use Rattle.history.specs.Contents.{Issue, valueOf, isExchange, codeIn, accessIn, refreshIn, firstTwenty, lastTwenty, issuedBy, isEndedBy, standingAfter, Contents, nothingYet, withEvent, withEvents}
 use Rattle.history.proofs.Readings.{second-last}
 use Rattle.history.proofs.AnyCall.{outcomeOn, asked, unfitTo, isPast, seen-past, past-buffers, past-registry, fit-size, planOn, granted-on}
-use Rattle.history.proofs.Shown.{ReadAs, refusedAs, exchangeAs, refreshAs, token-read, never-refused, code-text, access-text, refresh-text}
+use Rattle.history.proofs.Asking.{ReadAs, refusedAs, exchangeAs, refreshAs, credentialsAs, token-read}
+use Rattle.history.proofs.Shown.{never-refused, code-text, access-text, refresh-text}
 
 -- a list that grew by some, where those that pass a test went, or one that stayed
 module _ {A : Type 0} (x : A) (new old : List A) (ends : A → Bool) where
@@ -211,3 +212,4 @@ module _ (registry store : List ℕ) where
             refresh-text clients (short asks fit) g [] header body handed (sized asks fit) e (rw e at (granted-plan asks fit granted)) first
             (rw (second-last (handed .random) size) (simp length-drop (omega (arith, size))))
         by (refreshAs other _ e) = absurd (false≢true (sym other ∙ is))
+        by (credentialsAs other _ _ e) = absurd (false≢true (sym other ∙ is))

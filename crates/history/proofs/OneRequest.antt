@@ -1,6 +1,6 @@
 -- One request at the store: what it has if it is granted, that it keeps the invariant (`request-kept`), and that it is granted, and a
 -- check passes, exactly when something live stands that answers it, and there is room (`exchange-answer`, `refresh-answer`,
--- `check-passes`).
+-- `credentials-answer`, `check-passes`).
 --
 -- In order: which reasons did not apply; what is issued; each request that is granted; any request; room; no handle that comes once is
 -- in use; an exchange, a refresh and a check.
@@ -8,7 +8,7 @@
 -- `slots` are the store's at the time t, `standing` what stands by the calls, `seen` the random bytes that came with them.
 -- Assumes nothing.
 use mathlib.Core.Path.{_≡_, refl, sym, ap, ap₂, _∙_}
-use mathlib.Core.Bool.{Bool, true, false, cond, _&&_, false≢true, not, _||_, and-assoc, and-true, Bool·not-not}
+use mathlib.Core.Bool.{Bool, true, false, cond, _&&_, false≢true, not, _||_, and-assoc, and-true, and-false, Bool·not-not}
 use mathlib.Core.List.{List, [], _∷_, _++_, List·Memᴰ}
 use Prim.Native.Nat.{ℕ, _≤_, _+_, _-_}
 use native.Mathlib.Omega.{arith}
@@ -17,23 +17,29 @@ use lib.Dec.{leb, eqb, lit<}
 use Rattle.octets.specs.Lists.{same, every}
 use Rattle.octets.proofs.Booleans.{and-left}
 use Rattle.octets.proofs.Lists.{same-refl}
+use Rattle.encoding.specs.Hex.{readHandle, isHandleText}
 use Rattle.encoding.specs.declared.HandleText.{HandleText}
-use Rattle.octets.specs.Search.{count, bit, any, keep}
-use Rattle.token_store.specs.Store.{issue, isLive, isBoundCode, holds, soughtKey}
+use Rattle.octets.specs.Search.{count, bit, any, keep, firstOr}
+use Rattle.token_store.specs.Store.{issue, isLive, isBoundCode, isSought, holds, soughtKey, freeSlot}
 use Rattle.token_store.specs.declared.Slot.{Slot}
+use Rattle.token_store.specs.declared.Sought.{Sought}
 use Rattle.token_store.specs.declared.Sought.the-variants.{Code as soughtCode, Refresh as soughtRefresh, Access as soughtAccess}
 use Rattle.token_store.specs.Layout.{slotCount}
+use Rattle.token_store.proofs.Slots.{free-dead}
+use Rattle.protocol.specs.declared.Refusal.{Refusal}
 use Rattle.protocol.specs.declared.Decision.{Decision}
 use Rattle.protocol.specs.declared.Decision.the-variants.{Grant, Refuse}
 use Rattle.protocol.specs.declared.CodeRequest.{CodeRequest}
 use Rattle.protocol.specs.declared.ExchangeRequest.{ExchangeRequest}
 use Rattle.protocol.specs.declared.RefreshRequest.{RefreshRequest}
+use Rattle.protocol.specs.declared.CredentialsRequest.{CredentialsRequest}
 use Rattle.protocol.specs.declared.Request.{Request}
-use Rattle.protocol.specs.declared.Request.the-variants.{Refused, Code, Exchange, Refresh}
+use Rattle.protocol.specs.declared.Request.the-variants.{Refused, Code, Exchange, Refresh, Credentials}
 use Rattle.protocol.specs.declared.CheckAnswer.the-variants.{NotLive, Live}
 use Rattle.protocol.specs.Answers.{isGrant}
+use Rattle.protocol.specs.Refusals.{Reason, when, firstOf as firstReason}
 use Rattle.protocol.specs.Requests.{scopeGiven, fits}
-use Rattle.protocol.specs.Granting.{Plan, firstHandle, secondHandle, shownSlot, withoutCode, room, newCode, refusedPlan, codePlan, exchangePlan, refreshPlan, planFor, decisionOn, slotsBy, slotsAfter, isTaken, anyTaken, liveToken, checkSlots}
+use Rattle.protocol.specs.Granting.{Plan, firstHandle, secondHandle, shownSlot, withoutCode, room, newCode, refusedPlan, codePlan, exchangePlan, refreshPlan, credentialsPlan, planFor, decisionOn, slotsBy, slotsAfter, isTaken, anyTaken, liveToken, checkSlots}
 use Rattle.protocol.proofs.Reasons.{grant-every, unrefused}
 use Rattle.history.specs.Contents.{Sort, code, access, refresh, lifetime, NeverTwice}
 use Rattle.history.specs.Server.{isLiveCheck}
@@ -44,6 +50,22 @@ use Rattle.history.proofs.Readings.{onlyOf, firstOf, secondOf, Brings}
 
 -- ---- what is granted
 
+-- an empty text shows no slot
+none-shown : (q : Sought) (slots : List Slot) → shownSlot q (readHandle []) slots ≡ freeSlot
+unfolding firstOr readHandle isHandleText
+none-shown q [] = refl
+none-shown q (s ∷ slots) = rw (and-false (isSought q s)) (none-shown q slots)
+
+-- so that there is nothing to grant
+module _ (t : ℕ) (slots : List Slot) (random : List ℕ) where
+  pub exchange-none : (r : ExchangeRequest) → isGrant (decisionOn (planFor t slots random (readHandle []) (Exchange r))) ≡ false
+  unfolding planFor exchangePlan firstReason isGrant
+  exchange-none r = rw (none-shown soughtCode slots, free-dead t)
+
+  pub refresh-none : (r : RefreshRequest) → isGrant (decisionOn (planFor t slots random (readHandle []) (Refresh r))) ≡ false
+  unfolding planFor refreshPlan firstReason isGrant
+  refresh-none r = rw (none-shown soughtRefresh slots, free-dead t)
+
 module _ (t : ℕ) (slots : List Slot) (random : List ℕ) (p : HandleText) where
   abbrev pub Granted : Request → Type 0
   Granted request = isGrant (decisionOn (planFor t slots random p request)) ≡ true
@@ -51,9 +73,9 @@ module _ (t : ℕ) (slots : List Slot) (random : List ℕ) (p : HandleText) wher
   own-live : (client : ℕ) (s : Slot) → (isLive t s && eqb (s .client) client) ≡ true → isLive t s ≡ true
   own-live client s = and-left (isLive t s) (eqb (s .client) client)
 
-  code-room : (r : CodeRequest) → Granted (Code r) → 1 ≤ room t slots
-  unfolding planFor codePlan
-  code-room r e = leb-true 1 (room t slots) (not-false _ (unrefused (codePlan t slots random r .reasons) e 0 (lit< tt)))
+  -- a first reason that asks for one slot
+  one-slot : (x : Refusal) (rs : List Reason) → isGrant (firstReason (when (not (leb 1 (room t slots))) x ∷ rs)) ≡ true → 1 ≤ room t slots
+  one-slot x rs e = leb-true 1 (room t slots) (not-false _ (unrefused (when (not (leb 1 (room t slots))) x ∷ rs) e 0 (omega arith)))
 
   -- what is presented is live, and there is room
   pub exchange-has : (r : ExchangeRequest) → Granted (Exchange r)
@@ -75,11 +97,12 @@ module _ (t : ℕ) (slots : List Slot) (random : List ℕ) (p : HandleText) wher
 
   -- a refusal leaves the slots
   pub denied-slots : (request : Request) → planFor t slots random p request .denied ≡ slots
-  unfolding planFor refusedPlan codePlan exchangePlan refreshPlan
+  unfolding planFor refusedPlan codePlan exchangePlan refreshPlan credentialsPlan
   denied-slots (Refused r) = refl
   denied-slots (Code r) = refl
   denied-slots (Exchange r) = refl
   denied-slots (Refresh r) = refl
+  denied-slots (Credentials r) = refl
 
 -- ---- what is issued
 
@@ -106,6 +129,18 @@ tokenHeld sort t handle origin scope = record {
   expiry = t + lifetime sort;
 }
 
+-- a client's, for itself
+abbrev pub clientHeld : ℕ → Handle → CredentialsRequest → Held
+clientHeld t handle r = record {
+  sort = access;
+  bound = false;
+  handle = handle;
+  client = r .client;
+  farm = 0;
+  scope = r .scope;
+  expiry = t + lifetime access;
+}
+
 module _ (t : ℕ) (standing : List Held) (clients : ℕ) (random : List ℕ) (twenties : List (List ℕ)) (p : HandleText) where
   -- what a request that is granted issues
   unfoldable pub issuedHeld : (request : Request) → Brings clients random twenties request → List Held
@@ -116,6 +151,7 @@ module _ (t : ℕ) (standing : List Held) (clients : ℕ) (random : List ℕ) (t
       let o = originHeld code p standing in tokenHeld refresh t (secondOf q) o (o .scope) ∷ tokenHeld access t (firstOf q) o (o .scope) ∷ []
   issuedHeld (Refresh r) q =
       let o = originHeld refresh p standing in tokenHeld access t (firstOf (q .0)) o (scopeGiven (r .scope) (o .scope)) ∷ []
+  issuedHeld (Credentials r) q = clientHeld t (firstOf (q .0)) r ∷ []
 
   -- and what it ends
   unfoldable pub isEndedHeld : Request → Held → Bool
@@ -123,6 +159,7 @@ module _ (t : ℕ) (standing : List Held) (clients : ℕ) (random : List ℕ) (t
   isEndedHeld (Code r) e = false
   isEndedHeld (Exchange r) e = soughtKey soughtCode p (asSlot e)
   isEndedHeld (Refresh r) e = false
+  isEndedHeld (Credentials r) e = false
 
   -- what stands after it
   abbrev pub heldAfter : (request : Request) → Brings clients random twenties request → List Held
@@ -154,10 +191,10 @@ module _ {t : ℕ} {slots : List Slot} {standing : List Held} {seen : List (List
 
   granted-kept : (request : Request) (q : Brings clients random twenties request) → Granted t slots random p request
       → Invariant t (plan request .granted) (heldAfter t standing clients random twenties p request q) (twenties ++ seen)
-  unfolding planFor refusedPlan codePlan exchangePlan refreshPlan issuedHeld isEndedHeld Brings count
+  unfolding planFor refusedPlan codePlan exchangePlan refreshPlan credentialsPlan issuedHeld isEndedHeld Brings count
   granted-kept (Refused r) q e = absurd (false≢true (sym (unrefused (refusedPlan t slots random r .reasons) e 0 (lit< tt))))
   granted-kept (Code r) q e =
-      rw (q .0 .handles, keep-all, code-slot t (onlyOf (q .0)) r) (invariant-issue v (codeHeld t (onlyOf (q .0)) r) (code-room t slots random p r e))
+      rw (q .0 .handles, keep-all, code-slot t (onlyOf (q .0)) r) (invariant-issue v (codeHeld t (onlyOf (q .0)) r) (one-slot t slots random p _ _ e))
   granted-kept (Exchange r) q e =
       let o = originHeld code p standing in
       let has = exchange-has t slots random p r e in
@@ -168,6 +205,9 @@ module _ {t : ℕ} {slots : List Slot} {standing : List Held} {seen : List (List
       let has = refresh-has t slots random p r e in
       rw (q .0 .handles, ← (origin v once refresh p (has .0)), keep-all)
       (invariant-seen (invariant-issue v (tokenHeld access t (firstOf (q .0)) o (scopeGiven (r .scope) (o .scope))) (has .1)) _ (λ k. omega arith))
+  granted-kept (Credentials r) q e =
+      rw (q .0 .handles, keep-all)
+      (invariant-seen (invariant-issue v (clientHeld t (firstOf (q .0)) r) (one-slot t slots random p _ _ e)) _ (λ k. omega arith))
 
   pub request-kept : (request : Request) (q : Brings clients random twenties request)
       → Invariant t (slotsAfter (plan request)) (cond (isGrant (decisionOn (plan request))) (heldAfter t standing clients random twenties p request q) standing)
@@ -212,6 +252,10 @@ isRefreshableHeld t p r e =
 
 module _ {t : ℕ} {slots : List Slot} {standing : List Held} {seen : List (List ℕ)} (v : Invariant t slots standing seen) (once : NeverTwice seen)
     (p : HandleText) where
+  -- room for one more
+  room-one : leb 1 (room t slots) ≡ leb (count (λ e. isLive t (asSlot e)) standing + 1) 512
+  room-one = leb-room 1 (room t slots) (count (λ e. isLive t (asSlot e)) standing) (room-left v)
+
   -- ---- no handle that comes once is in use
 
   unused : (h : List ℕ) → count (same h) seen ≤ 0 → isTaken h slots ≡ false
@@ -259,7 +303,7 @@ module _ {t : ℕ} {slots : List Slot} {standing : List Held} {seen : List (List
     refresh-answer r =
         grant-every (refreshPlan t slots random p r .reasons)
         ∙ four-tests (isLive t s) (eqb (s .client) (r .client)) (fits (r .scope) (s .scope)) _ (Bool·not-not _) first-unused
-        ∙ ap₂ _&&_ (sym there) space
+        ∙ ap₂ _&&_ (sym there) room-one
       where
         s : Slot
         s = shownSlot soughtRefresh p slots
@@ -267,8 +311,11 @@ module _ {t : ℕ} {slots : List Slot} {standing : List Held} {seen : List (List
         there : any (isRefreshableHeld t p r) standing ≡ (isLive t s && (eqb (s .client) (r .client) && fits (r .scope) (s .scope)))
         there = contained v once refresh p (λ x. eqb (x .client) (r .client) && fits (r .scope) (x .scope))
 
-        space : leb 1 (room t slots) ≡ leb (count (λ e. isLive t (asSlot e)) standing + 1) 512
-        space = leb-room 1 (room t slots) (count (λ e. isLive t (asSlot e)) standing) (room-left v)
+    pub credentials-answer : (r : CredentialsRequest) → isGrant (decisionOn (planFor t slots random p (Credentials r)))
+        ≡ leb (count (λ e. isLive t (asSlot e)) standing + 1) 512
+    unfolding planFor credentialsPlan every
+    credentials-answer r =
+        grant-every (credentialsPlan t slots random r .reasons) ∙ rw first-unused (simp (Bool·not-not, and-true)) ∙ room-one
 
   -- ---- the check
 

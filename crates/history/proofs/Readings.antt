@@ -4,7 +4,7 @@
 -- brings, and that every query and every body is read so.
 -- Assumes nothing.
 use mathlib.Core.Path.{_≡_, refl}
-use mathlib.Core.Bool.{Bool, true, false, not, cond, _||_}
+use mathlib.Core.Bool.{Bool, true, false, not, cond, _&&_, _||_}
 use mathlib.Core.List.{List, [], _∷_, _++_}
 use Prim.Native.Nat.{ℕ, _^_, _≤_, _<_}
 use native.Mathlib.Omega.{arith}
@@ -32,13 +32,13 @@ use Rattle.protocol.specs.declared.Decision.{Decision}
 use Rattle.protocol.specs.declared.ScopeAsked.{ScopeAsked}
 use Rattle.protocol.specs.declared.ScopeAsked.the-variants.{Everything, Only, Unreadable}
 use Rattle.protocol.specs.declared.Request.{Request}
-use Rattle.protocol.specs.declared.Request.the-variants.{Refused, Code, Exchange, Refresh}
+use Rattle.protocol.specs.declared.Request.the-variants.{Refused, Code, Exchange, Refresh, Credentials}
 use Rattle.protocol.specs.declared.Reading.{Reading}
 use Rattle.protocol.specs.Limits.{codeRandom, tokenRandom}
-use Rattle.protocol.specs.Requests.{askedBy, scopeAsked, fits, scopeGiven, noHandle, unlessRefused}
+use Rattle.protocol.specs.Requests.{askedBy, scopeAsked, fits, scopeGiven, presentingNone, unlessRefused}
 use Rattle.protocol.specs.Authorization.{queryClient, isBadClient, codeAsked, pageReasons, redirectReasons, readAuthorization}
-use Rattle.protocol.specs.ClientForms.{formReasons}
-use Rattle.protocol.specs.Token.{readExchange, readRefresh, readGrant, readToken}
+use Rattle.protocol.specs.ClientForms.{cameWith, isBadHeader, isUnclearId, isImpostor, presentedId, callClient, isInvalidClient, formReasons}
+use Rattle.protocol.specs.Token.{tokenNames, readExchange, readRefresh, readCredentials, readGrant, readToken}
 use Rattle.protocol.specs.Granting.{firstHandle, secondHandle}
 use Rattle.protocol.proofs.Reasons.{unrefused, decided}
 use Rattle.history.specs.Server.{isUnfitRefusal}
@@ -169,6 +169,7 @@ module _ (clients : ℕ) (random : List ℕ) (twenties : List (List ℕ)) where
   Brings (Code r) = OneHandle random twenties × FieldsFit clients (r .client) (r .farm) (r .scope)
   Brings (Exchange r) = TwoHandles random twenties
   Brings (Refresh r) = TwoHandles random twenties × AskedSet (r .scope)
+  Brings (Credentials r) = TwoHandles random twenties × FieldsFit clients (r .client) 0 (r .scope)
 
   abbrev BringsUnless : Reading → Decision → Type 0
   BringsUnless reading d = Brings (unlessRefused d reading .request)
@@ -194,8 +195,8 @@ module _ (clients : List Client) where
   authorization-brings fit {random} {twenties} one query decision farm wide =
       let number = queryClient clients query in
       let client = clientAt clients number in
-      let rs = pageReasons clients query ++ redirectReasons client query decision in
-      decided (BringsUnless (length clients) random twenties (record { request = Code (codeAsked clients query farm); presented = noHandle })) rs
+      let rs = pageReasons clients query ++ redirectReasons client query decision farm in
+      decided (BringsUnless (length clients) random twenties (presentingNone (Code (codeAsked clients query farm)))) rs
       (refl, (refl, (refl, (refl, (refl, (refl, (refl, tt)))))))
       (λ granted.
       let known = client-known query (unrefused rs granted 1 (lit< tt)) in
@@ -203,15 +204,32 @@ module _ (clients : List Client) where
       let set = scope-given (scopeAsked asks) (client .scope) (scope-asked asks) (fit .scope number known) in
       (one, record { client = known; wide = wide; scope = set }))
 
-  pub token-brings : {random : List ℕ} {twenties : List (List ℕ)} → TwoHandles random twenties
+  caller-known : (header body : List ℕ) → isInvalidClient clients header body ≡ false → callClient clients header body < length clients
+  unfolding isInvalidClient callClient
+  caller-known header body e =
+      let known = isKnown (presentedId header body) clients in
+      let before = cameWith header && isBadHeader header || isUnclearId header body in
+      let impostor = isImpostor (clientAt clients (numberOf (presentedId header body) clients)) header body in
+      let e₁ = or-none (before || not known) impostor e in
+      ltb-true (numberOf (presentedId header body) clients) (length clients) (not-false known (or-none before (not known) (e₁ .0) .1))
+
+  pub token-brings : FitClients clients → {random : List ℕ} {twenties : List (List ℕ)} → TwoHandles random twenties
       → (header body : List ℕ) → Brings (length clients) random twenties (readToken clients header body .request)
-  unfolding readToken readGrant readExchange readRefresh formReasons unlessRefused isUnfitRefusal Brings
-  token-brings {random} {twenties} two header body =
+  unfolding readToken readGrant readExchange readRefresh readCredentials formReasons unlessRefused isUnfitRefusal Brings
+  token-brings fit {random} {twenties} two header body =
       let grant = formValue body (bytes "grant_type") in
       let n = length clients in
+      let number = callClient clients header body in
+      let asks = formValue body (bytes "scope") in
       let P = BringsUnless n random twenties in
-      decided (P _) _ (refl, (refl, tt))
-      (λ _. brings-either n random twenties (isOnce (bytes "authorization_code") grant) _ _
+      let rs = formReasons tokenNames (bytes "grant_type") clients header body in
+      decided (P _) rs (refl, (refl, tt))
+      (λ granted.
+      let known = caller-known header body (unrefused rs granted 1 (lit< tt)) in
+      let set = scope-given (scopeAsked asks) (clientAt clients number .scope) (scope-asked asks) (fit .scope number known) in
+      brings-either n random twenties (isOnce (bytes "authorization_code") grant) _ _
       (decided (P _) _ (refl, tt) (λ _. two))
       (brings-either n random twenties (isOnce (bytes "refresh_token") grant) _ _
-      (decided (P _) _ (refl, tt) (λ _. (two, scope-asked (formValue body (bytes "scope"))))) refl))
+      (decided (P _) _ (refl, tt) (λ _. (two, scope-asked asks)))
+      (brings-either n random twenties (isOnce (bytes "client_credentials") grant) _ _
+      (decided (P _) _ (refl, (refl, tt)) (λ _. (two, record { client = known; wide = omega arith; scope = set }))) refl)))

@@ -27,12 +27,12 @@ use Rattle.token_store.specs.Store.{Store, encode, fresh, slotOf, decodeSlot, s
 use Rattle.token_store.specs.declared.Slot.{Slot}
 use Rattle.token_store.proofs.Codec.{slot-at}
 use Rattle.protocol.specs.declared.LiveToken.{LiveToken}
-use Rattle.protocol.specs.Token.{readToken, tokenReply, refreshMember}
+use Rattle.protocol.specs.Token.{tokenReply, refreshMember}
 use Rattle.protocol.specs.Outcomes.{Handed}
 use Rattle.protocol.specs.Authorization.{location, codeParameter}
 use Rattle.history.specs.Calls.{Call, token, check, WellTyped, AllWellTyped, Result, Event, Server, storeAfterAll, events, authorization}
-use Rattle.history.specs.Contents.{access, Issue, isA, isLiveAt, isOf, isExchange, Contents, nothingYet, withEvents, twenties, code, refresh, originOf, valueOf, askedOr, firstTwenty, lastTwenty, isRefresh}
-use Rattle.history.specs.Claim.{Answers, isAdmitted, mayExchange, contained, next, Judged, Demand3, mayRefresh, mayPass, Asks}
+use Rattle.history.specs.Contents.{access, Issue, isA, isLiveAt, isOf, isExchange, Contents, nothingYet, withEvents, twenties, code, refresh, originOf, valueOf, askedOr, firstTwenty, lastTwenty, isRefresh, isCredentials, caller}
+use Rattle.history.specs.Claim.{Answers, isAdmitted, mayExchange, contained, next, Judged, Demand3, CredentialsYield, mayRefresh, mayHaveOwn, mayPass, Asks}
 use Rattle.history.proofs.SoundStores.{sound-back, sound-fresh}
 use Rattle.history.proofs.AllCalls.{fresh-bytes}
 use Rattle.history.proofs.CallsOnRecords.{isFitting}
@@ -109,6 +109,11 @@ refreshText body handed k =
     let granted = originOf refresh (valueOf body (bytes "refresh_token")) (k .standing) .scope in
     tokenReply (firstTwenty (handed .random)) [] (askedOr (formValue body (bytes "scope")) granted)
 
+abbrev credentialsText : List ℕ → List ℕ → Handed → List Client → List ℕ
+credentialsText header body handed clients =
+    let set = clientAt clients (caller clients header body) .scope in
+    tokenReply (firstTwenty (handed .random)) [] (askedOr (formValue body (bytes "scope")) set)
+
 abbrev codeText : List ℕ → Handed → List Client → List ℕ
 codeText query handed clients =
     let redirect = clientAt clients (numberOf (valueOf query (bytes "client_id")) clients) .redirect in
@@ -122,7 +127,7 @@ module _ (k : Contents) (r : Result) where
 
   module _ (header body : List ℕ) (handed : Handed) where
     abbrev asksAnd : List Bool → List Bool
-    asksAnd tests = judgedAnd (token header body handed) (isAdmitted (readToken sampleClients header body .request) ∷ tests)
+    asksAnd tests = judgedAnd (token header body handed) (isAdmitted sampleClients header body ∷ tests)
 
     abbrev pub exchangesWrongly : List Bool
     exchangesWrongly =
@@ -134,11 +139,19 @@ module _ (k : Contents) (r : Result) where
         let may = mayRefresh sampleClients (max (handed .clock) (k .highest)) (k .standing) header body in
         asksAnd (isRefresh body ∷ not (Bool·beq (r .granted) may) ∷ [])
 
+    abbrev pub credentialsWrongly : List Bool
+    credentialsWrongly =
+        let may = mayHaveOwn sampleClients (max (handed .clock) (k .highest)) (k .standing) header body in
+        asksAnd (isCredentials body ∷ not (Bool·beq (r .granted) may) ∷ [])
+
     abbrev pub exchangeRepliesWrongly : List Bool
     exchangeRepliesWrongly = asksAnd (isExchange body ∷ r .granted ∷ isOther handed r (exchangeText body handed k) ∷ [])
 
     abbrev pub refreshRepliesWrongly : List Bool
     refreshRepliesWrongly = asksAnd (isRefresh body ∷ r .granted ∷ isOther handed r (refreshText body handed k) ∷ [])
+
+    abbrev pub credentialsRepliesWrongly : List Bool
+    credentialsRepliesWrongly = asksAnd (isCredentials body ∷ r .granted ∷ isOther handed r (credentialsText header body handed sampleClients) ∷ [])
 
   module _ (presented : List ℕ) (clock : ℕ) where
     abbrev pub passesWrongly : List Bool
@@ -234,7 +247,7 @@ module _ {server : Server} {m : Model} (f : Follows server m) (cs : List Call) (
     c = token header body handed
 
     asks : (e : isFitting c ≡ true) → not (resultAfter c .unfit) ≡ true → distinct (twenties c ++ k .randoms) ≡ true
-        → isAdmitted (readToken sampleClients header body .request) ≡ true → Asks server sampleRegistry cs header body handed
+        → isAdmitted sampleClients header body ≡ true → Asks server sampleRegistry cs header body handed
     asks e fit once admitted = record { judged = judged c t e fit once; admitted = rw sample-clients admitted }
 
     pub exchange-fails : all (exchangesWrongly k (resultAfter c) header body handed) ≡ true → Demand3 server sampleRegistry cs → ⊥
@@ -251,6 +264,13 @@ module _ {server : Server} {m : Model} (f : Follows server m) (cs : List Call) (
         (said c t (h 0) (λ clients x r. r .granted ≡ mayRefresh clients (max (handed .clock) (x .highest)) (x .standing) header body)
         (d .refreshes header body handed (asks (h 0) (h 1) (h 2) (h 3)) (h 4))) (h 5)
 
+    pub credentials-fails : all (credentialsWrongly k (resultAfter c) header body handed) ≡ true → CredentialsYield server sampleRegistry cs → ⊥
+    credentials-fails e d =
+        let h = each (credentialsWrongly k (resultAfter c) header body handed) e in
+        apart (resultAfter c .granted) (mayHaveOwn sampleClients (max (handed .clock) (k .highest)) (k .standing) header body)
+        (said c t (h 0) (λ clients x r. r .granted ≡ mayHaveOwn clients (max (handed .clock) (x .highest)) (x .standing) header body)
+        (d .yields header body handed (asks (h 0) (h 1) (h 2) (h 3)) (h 4))) (h 5)
+
     pub exchange-reply-fails : all (exchangeRepliesWrongly k (resultAfter c) header body handed) ≡ true → Demand3 server sampleRegistry cs → ⊥
     exchange-reply-fails e d =
         let h = each (exchangeRepliesWrongly k (resultAfter c) header body handed) e in
@@ -266,6 +286,14 @@ module _ {server : Server} {m : Model} (f : Follows server m) (cs : List Call) (
         other-fails handed (resultAfter c) (refreshText body handed k)
         (said c t (h 0) (λ clients x r. r .output ≡ sets (handed .output) 0 (refreshText body handed x))
         (d .refreshReplies header body handed (asks (h 0) (h 1) (h 2) (h 3)) (h 4) granted .written)) (h 6)
+
+    pub credentials-reply-fails : all (credentialsRepliesWrongly k (resultAfter c) header body handed) ≡ true → Demand3 server sampleRegistry cs → ⊥
+    credentials-reply-fails e d =
+        let h = each (credentialsRepliesWrongly k (resultAfter c) header body handed) e in
+        let granted = ap (λ (r : Result). r .granted) (result-is c t (h 0)) ∙ h 5 in
+        other-fails handed (resultAfter c) (credentialsText header body handed sampleClients)
+        (said c t (h 0) (λ clients x r. r .output ≡ sets (handed .output) 0 (credentialsText header body handed clients))
+        (d .credentialsReplies header body handed (asks (h 0) (h 1) (h 2) (h 3)) (h 4) granted .written)) (h 6)
 
   module _ (presented : List ℕ) (clock : ℕ) where
     abbrev shown : Call

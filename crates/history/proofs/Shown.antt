@@ -1,7 +1,8 @@
 -- What the claim reads from a call that is served is what its request issued and ended (`standing-shown`): the code and the tokens in
 -- its answer are its random bytes in hex, and the values of its form are what it was read as.
 --
--- In order: parts of the answer; how a body is read; a code; tokens on a code; a token on a refresh token; any call.
+-- In order: parts of the answer; a call that is granted; a code; tokens on a code; a token on a refresh token; a client's token for
+-- itself; any call.
 -- Assumes nothing.
 use mathlib.Core.Path.{_≡_, refl, sym, ap, ap₂, _∙_, fun-ext, subst}
 use mathlib.Core.Bool.{Bool, true, false, cond, not, _&&_, _||_, false≢true}
@@ -15,7 +16,7 @@ use lib.Seq.{take-at, drop-at}
 use Rattle.octets.specs.Text.{bytes}
 use Rattle.octets.specs.Lists.{part, same}
 use Rattle.octets.specs.Search.{keep, firstOr}
-use Rattle.octets.proofs.Booleans.{cond-of, or-none}
+use Rattle.octets.proofs.Booleans.{or-none}
 use Rattle.octets.proofs.Lists.{same-eq}
 use Rattle.octets.proofs.Counting.{keep-all, keep-map, firstOr-map}
 use Rattle.encoding.specs.Hex.{hexText, readHandle}
@@ -33,27 +34,26 @@ use Rattle.protocol.specs.declared.Refusal.{Refusal}
 use Rattle.protocol.specs.declared.Refusal.the-variants.{ErrorPage}
 use Rattle.protocol.specs.declared.Decision.{Decision}
 use Rattle.protocol.specs.declared.Decision.the-variants.{Grant, Refuse}
-use Rattle.protocol.specs.declared.ExchangeRequest.{ExchangeRequest}
-use Rattle.protocol.specs.declared.RefreshRequest.{RefreshRequest}
-use Rattle.protocol.specs.declared.Request.the-variants.{Code, Exchange, Refresh}
+use Rattle.protocol.specs.declared.Request.the-variants.{Code}
 use Rattle.protocol.specs.declared.Reading.{Reading}
 use Rattle.protocol.specs.Answers.{isGrant}
 use Rattle.protocol.specs.Refusals.{Reason, firstOf as firstReason}
-use Rattle.protocol.specs.Requests.{scopeAsked, noHandle, refusedReading, unlessRefused}
+use Rattle.protocol.specs.Requests.{presentingNone, refusedReading, unlessRefused}
 use Rattle.protocol.specs.Authorization.{queryClient, isBadClient, isBadRedirect, codeAsked, pageReasons, redirectReasons, readAuthorization, separator, stateText, location, codeParameter, locationText}
 use Rattle.protocol.specs.ClientForms.{callClient}
-use Rattle.protocol.specs.Token.{readExchange, readRefresh, readGrant, readToken, tokenReply, refreshMember}
+use Rattle.protocol.specs.Token.{readToken, tokenReply, refreshMember}
 use Rattle.protocol.specs.Granting.{firstHandle, secondHandle, Plan, refusedPlan, exchangePlan, planFor, planOf, decisionOn}
 use Rattle.protocol.specs.Outcomes.{Handed, replyText}
 use Rattle.protocol.proofs.Reasons.{unrefused}
 use Rattle.protocol.proofs.Lengths.{separator-length}
 use Rattle.history.specs.Calls.{Call, authorization, token, check, handedTo, Result}
 use Rattle.history.specs.Server.{resultOf}
-use Rattle.history.specs.Contents.{Sort, code, access, refresh, Issue, isA, isOf, noIssue, originOf, valueOf, isExchange, isRefresh, askedOr, lifetime, fortyAt, codeIn, accessIn, refreshIn, codeIssue, tokenIssue, exchangeIssues, refreshIssues, issuedBy, isEndedBy, standingAfter, twenties}
+use Rattle.history.specs.Contents.{Sort, code, access, refresh, Issue, isA, isOf, noIssue, originOf, valueOf, isExchange, isRefresh, isCredentials, askedOr, lifetime, fortyAt, codeIn, accessIn, refreshIn, codeIssue, tokenIssue, exchangeIssues, refreshIssues, ownIssue, issuedBy, isEndedBy, standingAfter, twenties}
 use Rattle.history.proofs.HeldIssues.{Handle, Held, asSlot, asIssue, noneHeld, issue-key}
 use Rattle.history.proofs.Invariant.{originHeld}
 use Rattle.history.proofs.Readings.{given-asked, onlyOf, firstOf, secondOf, Brings}
-use Rattle.history.proofs.OneRequest.{codeHeld, tokenHeld, issuedHeld, isEndedHeld, heldAfter}
+use Rattle.history.proofs.OneRequest.{codeHeld, tokenHeld, clientHeld, issuedHeld, isEndedHeld, heldAfter}
+use Rattle.history.proofs.Asking.{caller-is, exchangeReading, refreshReading, credentialsReading, ReadAs, refusedAs, exchangeAs, refreshAs, credentialsAs, token-read}
 use Rattle.history.proofs.AnyCall.{outcomeOn, asked, unfitTo, planOn, granted-on}
 use Rattle.history.proofs.Written.{textOn, written-text, written-on}
 
@@ -103,40 +103,6 @@ refresh-part h k scope n m =
     (bytes "\",") (bytes "\"scope\":\"") (scopeText scope) (bytes "\"}") (length beforeAccess + 40 + length beforeRefresh) refl (hex-forty h n)
     (hex-forty k m)
 
--- ---- how a body is read
-
-module _ (clients : List Client) (header body : List ℕ) where
-  abbrev pub exchangeAsked : ExchangeRequest
-  exchangeAsked =
-      let number = callClient clients header body in
-      record { client = number; again = isOnce (clientAt clients number .redirect) (formValue body (bytes "redirect_uri")) }
-
-  abbrev pub refreshAsked : RefreshRequest
-  refreshAsked = record { client = callClient clients header body; scope = scopeAsked (formValue body (bytes "scope")) }
-
-  abbrev pub exchangeReading : Reading
-  exchangeReading = record { request = Exchange exchangeAsked; presented = readHandle (valueOf body (bytes "code")) }
-
-  abbrev pub refreshReading : Reading
-  refreshReading = record { request = Refresh refreshAsked; presented = readHandle (valueOf body (bytes "refresh_token")) }
-
-  pub data ReadAs (reading : Reading) : Type 0 where
-    refusedAs : (r : Refusal) → reading ≡ refusedReading r → ReadAs reading
-    exchangeAs : isExchange body ≡ true → reading ≡ exchangeReading → ReadAs reading
-    refreshAs : isExchange body ≡ false → isRefresh body ≡ true → reading ≡ refreshReading → ReadAs reading
-
-  unless-read : (d : Decision) (x : Reading) → ReadAs x → ReadAs (unlessRefused d x)
-  unfolding unlessRefused
-  unless-read Grant x p = p
-  unless-read (Refuse r) x p = refusedAs r refl
-
-  pub token-read : ReadAs (readToken clients header body)
-  unfolding readToken readGrant readExchange readRefresh
-  token-read =
-      unless-read _ _
-      (cond-of ReadAs (isExchange body) _ _ (λ e. unless-read _ _ (exchangeAs e refl))
-      (λ n. cond-of ReadAs (isRefresh body) _ _ (λ e. unless-read _ _ (refreshAs n e refl)) (λ _. refusedAs _ refl)))
-
 -- ---- a call that is granted
 
 module _ (t : ℕ) (slots : List Slot) (random : List ℕ) where
@@ -147,10 +113,17 @@ module _ (t : ℕ) (slots : List Slot) (random : List ℕ) where
   unfolding planFor refusedPlan firstReason isGrant
   never-refused r e = absurd (false≢true e)
 
-  unless-granted : (d : Decision) (x : Reading) → IsGranted (unlessRefused d x) → d ≡ Grant
+  pub unless-granted : (d : Decision) (x : Reading) → IsGranted (unlessRefused d x) → d ≡ Grant
   unfolding unlessRefused
   unless-granted Grant x e = refl
   unless-granted (Refuse r) x e = never-refused r e
+
+  -- a reading is granted where no reason refuses it before, and it is
+  pub unless-grants : (d : Decision) (x : Reading)
+      → isGrant (decisionOn (planOf t slots random (unlessRefused d x))) ≡ (isGrant d && isGrant (decisionOn (planOf t slots random x)))
+  unfolding unlessRefused planFor refusedPlan firstReason isGrant
+  unless-grants Grant x = refl
+  unless-grants (Refuse r) x = refl
 
 pub is-grant : (d : Decision) → isGrant d ≡ true → d ≡ Grant
 unfolding isGrant
@@ -217,10 +190,10 @@ module _ (clients : List Client) (short : (n : ℕ) → length (clientAt clients
     number = queryClient clients query
 
     abbrev reasons : List Reason
-    reasons = pageReasons clients query ++ redirectReasons (clientAt clients number) query decision
+    reasons = pageReasons clients query ++ redirectReasons (clientAt clients number) query decision farm
 
     abbrev codeReading : Reading
-    codeReading = record { request = Code (codeAsked clients query farm); presented = noHandle }
+    codeReading = presentingNone (Code (codeAsked clients query farm))
 
     -- an address that was given is the client's
     address-given : firstReason reasons ≡ Grant
@@ -361,6 +334,23 @@ module _ (clients : List Client) (short : (n : ℕ) → length (clientAt clients
         (ap₂ {C = List Issue} (λ e es. e ∷ es) (accessed ∙ given)
         (keep-all (issues clients held) ∙ ap (λ (l : List Held). map (asIssue clients) l) (sym (keep-all held))))
 
+    -- ---- a client's token for itself
+
+    abbrev itself : Reading
+    itself = credentialsReading clients header body
+
+    credentials-stands : isExchange body ≡ false → isRefresh body ≡ false → isCredentials body ≡ true → readToken clients header body ≡ itself
+        → Stands itself
+    unfolding issuedBy ownIssue isEndedBy issuedHeld isEndedHeld Brings
+    credentials-stands other neither is read granted q =
+        let first = firstOf (q .0) in
+        let number = callClient clients header body in
+        let text = access-text read granted (first .size) in
+        let scope = sym (given-asked (formValue body (bytes "scope")) (clientAt clients number .scope)) in
+        rw (other, neither, is, caller-is clients header body, text)
+        (ap₂ {C = List Issue} (λ e es. e ∷ es) (ap (λ (s : ℕ). asIssue clients (clientHeld at first (record { client = number; scope = s }))) scope)
+        (keep-all (issues clients held) ∙ ap (λ (l : List Held). map (asIssue clients) l) (sym (keep-all held))))
+
     token-stands : Stands (readToken clients header body)
     token-stands = by (token-read clients header body)
       where
@@ -368,6 +358,7 @@ module _ (clients : List Client) (short : (n : ℕ) → length (clientAt clients
         by (refusedAs r e) = rw e (λ granted q. never-refused at (g .slots) (handed .random) r granted)
         by (exchangeAs is e) = subst Stands (sym e) (exchange-stands is e)
         by (refreshAs other is e) = subst Stands (sym e) (refresh-stands other is e)
+        by (credentialsAs other neither is e) = subst Stands (sym e) (credentials-stands other neither is e)
 
   -- ---- any call
 

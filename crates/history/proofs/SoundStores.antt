@@ -33,9 +33,9 @@ use Rattle.protocol.specs.declared.Decision.{Decision}
 use Rattle.protocol.specs.declared.Decision.the-variants.{Grant, Refuse}
 use Rattle.protocol.specs.declared.CodeRequest.{CodeRequest}
 use Rattle.protocol.specs.declared.Request.{Request}
-use Rattle.protocol.specs.declared.Request.the-variants.{Refused, Code, Exchange, Refresh}
+use Rattle.protocol.specs.declared.Request.the-variants.{Refused, Code, Exchange, Refresh, Credentials}
 use Rattle.protocol.specs.Answers.{isGrant}
-use Rattle.protocol.specs.Granting.{Plan, firstHandle, shownSlot, newCode, refusedPlan, codePlan, exchangePlan, refreshPlan, planFor, decisionOn, slotsBy, slotsAfter}
+use Rattle.protocol.specs.Granting.{Plan, firstHandle, shownSlot, newCode, refusedPlan, codePlan, exchangePlan, refreshPlan, credentialsPlan, planFor, decisionOn, slotsBy, slotsAfter}
 use Rattle.octets.proofs.Counting.{length-replaceFirst}
 use Rattle.history.proofs.Readings.{FieldsFit, scope-given, Brings}
 use Rattle.history.proofs.OneRequest.{Granted, exchange-has, refresh-has, denied-slots}
@@ -165,7 +165,7 @@ module _ {clients : ℕ} (few : clients ≤ 64) {t : ℕ} (early : t ≤ latestT
 
   granted-each : (request : Request) → Brings clients random twenties request → Granted t slots random p request
       → AllSound clients (planFor t slots random p request .granted)
-  unfolding planFor refusedPlan codePlan exchangePlan refreshPlan Brings
+  unfolding planFor refusedPlan codePlan exchangePlan refreshPlan credentialsPlan Brings
   granted-each (Refused r) q e = w .slots
   granted-each (Code r) q e = issue-each _ slots (code-sound r (omega (arith, q .0 .size)) (q .1)) (w .slots)
   granted-each (Exchange r) q e =
@@ -182,13 +182,16 @@ module _ {clients : ℕ} (few : clients ≤ 64) {t : ℕ} (early : t ≤ latestT
       issue-each _ slots
       (sound-used clients _ refl few (lit≤ tt) a (omega arith)
       (record { client = f .client; wide = f .wide; scope = scope-given (r .scope) (s .scope) (q .1) (f .scope) })) (w .slots)
+  granted-each (Credentials r) q e =
+      issue-each _ slots (sound-used clients _ refl few (lit≤ tt) (length-take-le handleSize random (omega (arith, q .0 .size))) (omega arith) (q .1)) (w .slots)
 
   granted-size : (request : Request) → length (planFor t slots random p request .granted) ≡ length slots
-  unfolding planFor refusedPlan codePlan exchangePlan refreshPlan
+  unfolding planFor refusedPlan codePlan exchangePlan refreshPlan credentialsPlan
   granted-size (Refused r) = refl
   granted-size (Code r) = simp length-replaceFirst
   granted-size (Exchange r) = simp length-replaceFirst
   granted-size (Refresh r) = simp length-replaceFirst
+  granted-size (Credentials r) = simp length-replaceFirst
 
   -- a request leaves a sound store
   pub sound-after : (request : Request) → Brings clients random twenties request

@@ -1,24 +1,24 @@
--- Demand 3: the one claim about every list of calls (`demand3`).
+-- Demand 3: the one claim about every list of calls (`demand3`), and what is claimed beyond it (`credentials-yield`).
 --
 -- A call that is judged is past refusals 1 to 4, so it is served on the store that the calls before it left, and that store belongs to
 -- what they contain (`kept-all`). So what it is answered is what its request is answered there (`exchange-answer` and its siblings), and
 -- the claim's tests of the issues that stand are tests of the slots that hold them (HeldIssues).
 --
--- In order: a call that is judged; the token endpoint; the check; the location; a refused try; the theorem.
+-- In order: a call that is judged; the token endpoint, grant by grant; the check; the location; a refused try; the theorem.
 -- Assumes nothing.
 use mathlib.Core.Path.{_≡_, refl, sym, ap, ap₂, _∙_, fun-ext, subst}
-use mathlib.Core.Bool.{Bool, true, false, not, _&&_}
+use mathlib.Core.Bool.{Bool, true, false, not, _&&_, and-true, Bool·not-not}
 use mathlib.Core.List.{List, [], _∷_, List·Memᴰ}
 use Prim.Native.Nat.{ℕ, _+_, _-_}
 use native.Mathlib.Omega.{arith}
 use lib.Dec.{leb, eqb}
 use lib.ListN.{length}
 use Rattle.octets.specs.Text.{bytes}
-use Rattle.octets.specs.Lists.{Bytes, part}
+use Rattle.octets.specs.Lists.{Bytes, part, every}
 use Rattle.octets.specs.Search.{count, any}
 use Rattle.octets.proofs.Counting.{count-map, any-map, member-map}
 use Rattle.encoding.specs.Hex.{readHandle}
-use Rattle.form.specs.Content.{Value, formValue}
+use Rattle.form.specs.Content.{Value, missing, formValue, onlyValue}
 use Rattle.client_registry.proofs.Clients.{redirect-most}
 use Rattle.client_registry.specs.Registry.{Client, clientsOf}
 use Rattle.client_registry.specs.Lookup.{numberOf, clientAt}
@@ -31,25 +31,27 @@ use Rattle.protocol.specs.declared.Decision.the-variants.{Grant}
 use Rattle.protocol.specs.declared.Reading.{Reading}
 use Rattle.protocol.specs.Limits.{tokenRandom}
 use Rattle.protocol.specs.Answers.{isGrant}
-use Rattle.protocol.specs.Requests.{fits, scopeAsked}
-use Rattle.protocol.specs.Authorization.{queryClient, location, codeParameter, locationText}
+use Rattle.protocol.specs.Refusals.{firstOf}
+use Rattle.protocol.specs.Requests.{fits, scopeAsked, noHandle, unlessRefused}
+use Rattle.protocol.specs.Authorization.{queryClient, isInvalidScope, location, codeParameter, locationText}
 use Rattle.protocol.specs.ClientForms.{callClient}
-use Rattle.protocol.specs.Token.{readToken, tokenReply, refreshMember}
-use Rattle.protocol.specs.Granting.{Plan, shownSlot, firstHandle, secondHandle, exchangePlan, refreshPlan, planFor, planOf, decisionOn}
+use Rattle.protocol.specs.Token.{credentialsReasons, readCredentials, readToken, tokenReply, refreshMember}
+use Rattle.protocol.specs.Granting.{Plan, shownSlot, firstHandle, secondHandle, exchangePlan, refreshPlan, credentialsPlan, planFor, planOf, decisionOn}
 use Rattle.protocol.specs.Outcomes.{Handed, Outcome, replyText, serveCheck}
 use Rattle.history.specs.Calls.{Call, authorization, token, check, handedTo, AllWellTyped, Result}
 use Rattle.history.specs.Server.{Answer, outcomeOf, isPassed, namedIn, namedBy, resultOf, ours}
-use Rattle.history.specs.Contents.{Sort, noIssue, code, access, refresh, Issue, isA, isLiveAt, isOf, originOf, valueOf, isExchange, isRefresh, askedOr, firstTwenty, lastTwenty, twenties, NeverTwice}
-use Rattle.history.specs.Claim.{isExchangeable, mayExchange, isRefreshable, mayRefresh, mayPass, Answers, store, contained, standing, timeAt, next, Judged, Asks, Demand3}
+use Rattle.history.specs.Contents.{Sort, noIssue, code, access, refresh, Issue, isA, isLiveAt, isOf, originOf, valueOf, isExchange, isRefresh, isCredentials, isWithinGranted, askedOr, caller, firstTwenty, lastTwenty, twenties, NeverTwice}
+use Rattle.history.specs.Claim.{isExchangeable, mayExchange, isRefreshable, mayRefresh, mayHaveOwn, mayPass, Answers, store, contained, standing, timeAt, next, Judged, Asks, Demand3, CredentialsYield}
+use Rattle.protocol.proofs.Reasons.{grant-every}
 use Rattle.history.proofs.HeldIssues.{Held, noneHeld, sought, asSlot, asIssue, issue-live, issue-key, issue-repeated}
 use Rattle.history.proofs.Invariant.{Invariant, invariant-later, origin}
 use Rattle.history.proofs.Readings.{second-last, within-granted, given-asked}
-use Rattle.history.proofs.OneRequest.{exchange-has, refresh-has, isExchangeableHeld, isRefreshableHeld, exchange-answer, refresh-answer, check-passes, check-names}
+use Rattle.history.proofs.OneRequest.{exchange-has, refresh-has, exchange-none, refresh-none, isExchangeableHeld, isRefreshableHeld, exchange-answer, refresh-answer, credentials-answer, check-passes, check-names}
 use Rattle.history.proofs.SoundStores.{slots-same}
 use Rattle.history.proofs.AnyCall.{outcomeOn, asked, unfitTo, isPast, TakenCall, unseen, seen, seen-past, take, past-buffers, past-registry, fit-size, planOn, leftBy, store-on, granted-on, refused-left}
 use Rattle.history.proofs.Written.{textOn, written-on}
-use Rattle.history.proofs.Shown.{is-grant, exchangeAsked, refreshAsked, exchangeReading, refreshReading, origin-shown}
-use Rattle.history.proofs.Asking.{caller-is, exchange-read, refresh-read}
+use Rattle.history.proofs.Asking.{caller-is, exchangeAsked, refreshAsked, credentialsAsked, exchangeReading, refreshReading, credentialsReading, unlessMissing, unless-missing, exchange-read, refresh-read, credentials-read}
+use Rattle.history.proofs.Shown.{is-grant, unless-granted, unless-grants, origin-shown}
 use Rattle.history.proofs.AllCalls.{storeWith, Kept, kept-read, kept-all, never-tail}
 
 module _ (registry : List ℕ) (small : Bytes registry) (cs : List Call) (typed : AllWellTyped cs) where
@@ -148,6 +150,18 @@ module _ (registry : List ℕ) (small : Bytes registry) (cs : List Call) (typed 
     unfolding asked handedTo
     granted-as read = granted-is asks (a .judged) ∙ ap (λ (r : Reading). isGrant (decisionOn (plan r))) read
 
+    -- a reading that is refused where what it presents is missing, and without that would not be granted either
+    presented-granted : (v : Value) (reading : Reading) → readToken clients header body ≡ unlessMissing v reading
+        → (v ≡ missing → isGrant (decisionOn (plan reading)) ≡ false) → next ours registry cs asks .granted ≡ isGrant (decisionOn (plan reading))
+    presented-granted v reading read none = granted-as read ∙ unless-grants t slots random _ reading ∙ unless-missing v _ none
+
+    -- what a reading that is granted was read as
+    read-granted : (d : Decision) (reading : Reading) → readToken clients header body ≡ unlessRefused d reading → next ours registry cs asks .granted ≡ true
+        → readToken clients header body ≡ reading
+    unfolding unlessRefused
+    read-granted d reading read e =
+        read ∙ ap (λ (x : Decision). unlessRefused x reading) (unless-granted t slots random d reading (sym (granted-as read) ∙ e))
+
     -- what is written for a reading that is granted
     reply-as : {reading : Reading} → readToken clients header body ≡ reading → isGrant (decisionOn (plan reading)) ≡ true
         → Answers handed (next ours registry cs asks) (replyText random (plan reading) Grant)
@@ -171,8 +185,14 @@ module _ (registry : List ℕ) (small : Bytes registry) (cs : List Call) (typed 
       abbrev codeShown : List ℕ
       codeShown = valueOf body (bytes "code")
 
-      read-exchange : readToken clients header body ≡ exchangeReading clients header body
+      read-exchange : readToken clients header body ≡ unlessMissing (formValue body (bytes "code")) (exchangeReading clients header body)
       read-exchange = exchange-read clients header body (a .admitted) is
+
+      exchange-granted : next ours registry cs asks .granted ≡ isGrant (decisionOn (plan (exchangeReading clients header body)))
+      unfolding onlyValue
+      exchange-granted =
+          presented-granted (formValue body (bytes "code")) _ read-exchange
+          (λ e. rw e (exchange-none t slots random (exchangeAsked clients header body)))
 
       exchangeable : (e : Held) → isExchangeable clients t (standing ours registry cs) header body (asIssue clients e)
           ≡ isExchangeableHeld t (readHandle codeShown) (exchangeAsked clients header body) e
@@ -188,7 +208,7 @@ module _ (registry : List ℕ) (small : Bytes registry) (cs : List Call) (typed 
       exchange-claim : next ours registry cs asks .granted ≡ mayExchange clients t (standing ours registry cs) header body
       unfolding mayExchange
       exchange-claim =
-          granted-as read-exchange
+          exchange-granted
           ∙ exchange-answer invariant once (readHandle codeShown) random new (exchangeAsked clients header body)
           ∙ ap₂ _&&_ (sym (any-held _ _ exchangeable)) (ap (λ (n : ℕ). leb (n + 2) 512) (sym (count-held _ _ others)))
 
@@ -197,9 +217,9 @@ module _ (registry : List ℕ) (small : Bytes registry) (cs : List Call) (typed 
           Answers handed (next ours registry cs asks) (tokenReply (firstTwenty random) (refreshMember (lastTwenty random)) scope)
       unfolding replyText planFor exchangePlan
       exchange-reply e =
-          let granted = sym (granted-as read-exchange) ∙ e in
+          let granted = sym exchange-granted ∙ e in
           let live = exchange-has t slots random (readHandle codeShown) (exchangeAsked clients header body) granted .0 in
-          rw (← (second-last random size), ← (scope-held code codeShown live)) (reply-as read-exchange granted)
+          rw (← (second-last random size), ← (scope-held code codeShown live)) (reply-as (read-granted _ _ read-exchange e) granted)
 
     -- ---- a refresh
 
@@ -210,8 +230,14 @@ module _ (registry : List ℕ) (small : Bytes registry) (cs : List Call) (typed 
       abbrev scope : Value
       scope = formValue body (bytes "scope")
 
-      read-refresh : readToken clients header body ≡ refreshReading clients header body
+      read-refresh : readToken clients header body ≡ unlessMissing (formValue body (bytes "refresh_token")) (refreshReading clients header body)
       read-refresh = refresh-read clients header body (a .admitted) is
+
+      refresh-granted : next ours registry cs asks .granted ≡ isGrant (decisionOn (plan (refreshReading clients header body)))
+      unfolding onlyValue
+      refresh-granted =
+          presented-granted (formValue body (bytes "refresh_token")) _ read-refresh
+          (λ e. rw e (refresh-none t slots random (refreshAsked clients header body)))
 
       refreshable : (e : Held) → isRefreshable clients t (standing ours registry cs) header body (asIssue clients e)
           ≡ isRefreshableHeld t (readHandle tokenShown) (refreshAsked clients header body) e
@@ -223,7 +249,7 @@ module _ (registry : List ℕ) (small : Bytes registry) (cs : List Call) (typed 
       refresh-claim : next ours registry cs asks .granted ≡ mayRefresh clients t (standing ours registry cs) header body
       unfolding mayRefresh
       refresh-claim =
-          granted-as read-refresh
+          refresh-granted
           ∙ refresh-answer invariant once (readHandle tokenShown) random new (refreshAsked clients header body)
           ∙ ap₂ _&&_ (sym (any-held _ _ refreshable)) (ap (λ (n : ℕ). leb (n + 1) 512) (sym (count-held _ _ (issue-live clients t))))
 
@@ -232,10 +258,45 @@ module _ (registry : List ℕ) (small : Bytes registry) (cs : List Call) (typed 
           Answers handed (next ours registry cs asks) (tokenReply (firstTwenty random) [] (askedOr scope granted))
       unfolding replyText planFor refreshPlan
       refresh-reply e =
-          let granted = sym (granted-as read-refresh) ∙ e in
+          let granted = sym refresh-granted ∙ e in
           let live = refresh-has t slots random (readHandle tokenShown) (refreshAsked clients header body) granted .0 in
           rw (← (given-asked scope (originOf refresh tokenShown (standing ours registry cs) .scope)), ← (scope-held refresh tokenShown live))
-          (reply-as read-refresh granted)
+          (reply-as (read-granted _ _ read-refresh e) granted)
+
+    -- ---- a client for itself
+
+    module _ (is : isCredentials body ≡ true) where
+      abbrev client : Client
+      client = clientAt clients (callClient clients header body)
+
+      read-credentials : readToken clients header body
+          ≡ unlessRefused (firstOf (credentialsReasons client body)) (credentialsReading clients header body)
+      unfolding readCredentials
+      read-credentials = credentials-read clients header body (a .admitted) is
+
+      unrefused-is : isGrant (firstOf (credentialsReasons client body))
+          ≡ (client .confidential && isWithinGranted (formValue body (bytes "scope")) (client .scope))
+      unfolding isInvalidScope every
+      unrefused-is = grant-every (credentialsReasons client body) ∙ simp (Bool·not-not, and-true, within-granted)
+
+      credentials-granted : next ours registry cs asks .granted
+          ≡ (client .confidential && isWithinGranted (formValue body (bytes "scope")) (client .scope) && leb (count (λ e. isLive t (asSlot e)) held + 1) 512)
+      credentials-granted =
+          granted-as read-credentials ∙ unless-grants t slots random _ (credentialsReading clients header body)
+          ∙ ap₂ _&&_ unrefused-is (credentials-answer invariant once noHandle random new (credentialsAsked clients header body))
+
+      credentials-claim : next ours registry cs asks .granted ≡ mayHaveOwn clients t (standing ours registry cs) header body
+      unfolding mayHaveOwn
+      credentials-claim = rw (caller-is clients header body, count-held _ _ (issue-live clients t)) credentials-granted
+
+      credentials-reply : next ours registry cs asks .granted ≡ true
+          → let scope = askedOr (formValue body (bytes "scope")) (clientAt clients (caller clients header body) .scope) in
+          Answers handed (next ours registry cs asks) (tokenReply (firstTwenty random) [] scope)
+      unfolding replyText planFor credentialsPlan
+      credentials-reply e =
+          let read = read-granted _ _ read-credentials e in
+          rw (caller-is clients header body, ← (given-asked (formValue body (bytes "scope")) (client .scope)))
+          (reply-as read (sym (granted-as read) ∙ e))
 
   -- ---- the check
 
@@ -311,6 +372,11 @@ demand3 registry small cs typed = record {
   names = check-named registry small cs typed;
   exchangeReplies = exchange-reply registry small cs typed;
   refreshReplies = refresh-reply registry small cs typed;
+  credentialsReplies = credentials-reply registry small cs typed;
   locates = code-located registry small cs typed;
   spendsNothing = λ c none i below. refused-slots registry small cs typed c none i;
 }
+
+-- And beyond it: when a client that asks for itself is served.
+pub credentials-yield : (registry : List ℕ) → Bytes registry → (cs : List Call) → AllWellTyped cs → CredentialsYield ours registry cs
+credentials-yield registry small cs typed = record { yields = credentials-claim registry small cs typed }

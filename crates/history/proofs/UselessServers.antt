@@ -42,12 +42,12 @@ use Rattle.protocol.specs.Refusals.{firstOf}
 use Rattle.protocol.specs.Requests.{askedBy, scopeAsked, fits, scopeGiven, unlessRefused}
 use Rattle.protocol.specs.Authorization.{isBadQuery, queryClient, isBadClient, isBadRedirect, isSoundState, isBadState, isInvalidRequest, isOtherType, isInvalidScope, codeAsked, pageReasons, redirectReasons, readAuthorization, separator, stateText, location, codeParameter, errorParameter, locationText}
 use Rattle.protocol.specs.ClientForms.{isInvalidForm, lowerCase, sameAnyCase, credentials, isBadHeader, headerId, headerSecret, presentedId, presentedSecret, isUnclearId, isImpostor, callClient, isInvalidClient, formReasons}
-use Rattle.protocol.specs.Token.{readExchange, readRefresh, readGrant, errorReply, refusalReply, tokenReply, refreshMember, challenges, readToken}
-use Rattle.protocol.specs.Granting.{refusedPlan, codePlan, exchangePlan, refreshPlan, planFor, slotsBy, checkSlots}
+use Rattle.protocol.specs.Token.{readExchange, readRefresh, readCredentials, readGrant, errorReply, refusalReply, tokenReply, refreshMember, challenges, readToken}
+use Rattle.protocol.specs.Granting.{refusedPlan, codePlan, exchangePlan, refreshPlan, credentialsPlan, planFor, slotsBy, checkSlots}
 use Rattle.protocol.specs.Outcomes.{Handed, replyText, serveAuthorization, serveToken, serveCheck}
 use Rattle.protocol.proofs.Starred.{countUp, rfcQuery}
-use Rattle.history.specs.Contents.{standingAfter, withEvent, codeIssue, exchangeIssues, refreshIssues, issuedBy, isEndedBy, noIssue, isWithinGranted, noneBeyond, askedOr, namesOr, valueOf, Contents, nothingYet, withEvents, twenties, isRefresh}
-use Rattle.history.specs.Claim.{idIn, isRepeatedBy, mayRefresh, mayPass, isAdmitted, mayExchange, Demand3}
+use Rattle.history.specs.Contents.{standingAfter, withEvent, codeIssue, exchangeIssues, refreshIssues, ownIssue, issuedBy, isEndedBy, noIssue, isWithinGranted, noneBeyond, askedOr, namesOr, valueOf, Contents, nothingYet, withEvents, twenties, isRefresh, isCredentials, idIn}
+use Rattle.history.specs.Claim.{isRepeatedBy, mayRefresh, mayPass, isAdmitted, mayExchange, mayHaveOwn, Demand3, CredentialsYield}
 use Rattle.history.specs.Server.{isUnfit, isUnfitDecision, isUnfitRefusal, isUnfitCheck, isGranted, lengthOf, isPassed, namedIn, isLiveCheck, namedBy, nothingNamed, ours}
 use Rattle.history.specs.Calls.{Call, authorization, token, check, handedTo, WellTyped, AllWellTyped, Result, Server, events, freshStore}
 use Rattle.history.proofs.AnyCall.{outcomeOn, asked, unfitTo, leftBy, store-on}
@@ -55,9 +55,9 @@ use Rattle.history.proofs.SoundStores.{SoundSlot, sound-back, sound-fre
 use Rattle.history.proofs.AllCalls.{fresh-bytes}
 use Rattle.history.proofs.CallsOnRecords.{resultOn, isFitting}
 use Rattle.history.proofs.Sample.{tested-bytes, SoundSample, sample-served, sample-left}
-use Rattle.history.proofs.Examples.{handedAt, authorizeAt, header, exchangeOf, repeating, byBarnapp, tokenAt, codeText, accessText, refreshText, exchangeAt, refreshFor, visit, night, isTyped}
+use Rattle.history.proofs.Examples.{handedAt, authorizeAt, header, exchangeOf, repeating, byBarnapp, tokenAt, codeText, accessText, refreshText, exchangeAt, refreshFor, visit, night, isTyped, ownFor, ownText}
 use Rattle.history.proofs.Visit.{tested-calls}
-use Rattle.history.proofs.ServersOnRecords.{Model, Follows, leftAfter, eventsAfter, containedAfter, all, isNamedWrongly, exchangesWrongly, refreshesWrongly, exchangeRepliesWrongly, refreshRepliesWrongly, passesWrongly, namesWrongly, locatesWrongly, measuresWrongly, spendsSlot, unequal, exchange-fails, refresh-fails, exchange-reply-fails, refresh-reply-fails, pass-fails, name-fails, locate-fails, measure-fails, spend-fails}
+use Rattle.history.proofs.ServersOnRecords.{Model, Follows, leftAfter, eventsAfter, containedAfter, all, isNamedWrongly, exchangesWrongly, refreshesWrongly, exchangeRepliesWrongly, refreshRepliesWrongly, credentialsWrongly, credentialsRepliesWrongly, passesWrongly, namesWrongly, locatesWrongly, measuresWrongly, spendsSlot, unequal, exchange-fails, refresh-fails, exchange-reply-fails, refresh-reply-fails, credentials-fails, credentials-reply-fails, pass-fails, name-fails, locate-fails, measure-fails, spend-fails}
 
 -- ---- servers that answer otherwise than ours
 
@@ -170,6 +170,15 @@ putBack (check presented clock) granted before after = after
 
 pub codeTwice : Server
 codeTwice = leavingFrom putBack
+
+-- a client's token for itself is not kept
+unfoldable pub unkept : Call → Bool → Store → Store → Store
+unkept (authorization query decision farm handed) granted before after = after
+unkept (token header body handed) granted before after = cond (isCredentials body) (withSlots after (before .slots)) after
+unkept (check presented clock) granted before after = after
+
+pub forgetsOwn : Server
+forgetsOwn = leavingFrom unkept
 
 -- ---- servers that read another store than the one handed in
 
@@ -303,6 +312,15 @@ sound-put (token header body handed) true before after b a =
 sound-put (token header body handed) false before after b a = a
 sound-put (check presented clock) granted before after b a = a
 
+sound-unkept : (c : Call) (granted : Bool) (before after : Store) → SoundSample before → SoundSample after
+    → SoundSample (unkept c granted before after)
+unfolding unkept
+sound-unkept (authorization query decision farm handed) granted before after b a = a
+sound-unkept (token header body handed) granted before after b a =
+    cond-of SoundSample (isCredentials body) (withSlots after (before .slots)) after
+    (λ _. record { size = b .size; early = a .early; slots = b .slots }) (λ _. a)
+sound-unkept (check presented clock) granted before after b a = a
+
 abbrev readingModel : (Call → Store → Store) → Model
 readingModel instead = record {
   result = λ g c. resultOn sampleClients (instead c g) c;
@@ -386,12 +404,11 @@ first-follows = record {
   sounds = λ g w c typed e. cond-of SoundSample (isFresh g) (leftBy sampleClients g c) g (λ _. sample-left g w c typed e) (λ _. w);
 }
 
-abbrev yieldsModel : Model
-yieldsModel = record { result = λ g c. stock true (encode g) c; left = λ g c. g }
+abbrev stockModel : Bool → Model
+stockModel yields = record { result = λ g c. stock yields (encode g) c; left = λ g c. g }
 
-yields-follows : Follows yieldsAlways yieldsModel
-unfolding yieldsAlways
-yields-follows = record { results = λ g w c typed e. refl; stores = λ g w c e. refl; sounds = λ g w c typed e. w }
+stock-follows : (yields : Bool) → Follows (λ registry store c. stock yields store c) (stockModel yields)
+stock-follows yields = record { results = λ g w c typed e. refl; stores = λ g w c e. refl; sounds = λ g w c typed e. w }
 
 -- ---- the calls
 
@@ -413,6 +430,10 @@ wider = refreshFor refreshText (bytes "&scope=power+pump")
 unfoldable again : List ℕ
 again = refreshFor refreshText []
 
+-- the first client asks for itself
+unfoldable pub itself : List Call
+itself = tokenAt header (ownFor []) 1000 0xA0 ∷ []
+
 -- tests of a call that is judged after some
 module _ (m : Model) (cs : List Call) where
   abbrev comesTo : Call → Result
@@ -422,8 +443,8 @@ module _ (m : Model) (cs : List Call) where
   tokenTests tests body clock first =
       let handed = handedAt clock 40 first in all (tests (containedAfter m cs) (comesTo (token header body handed)) header body handed)
 
-  abbrev checkTests : (Contents → Result → List ℕ → ℕ → List Bool) → Bool
-  checkTests tests = all (tests (containedAfter m cs) (comesTo (check accessText 1510)) accessText 1510)
+  abbrev checkTests : (Contents → Result → List ℕ → ℕ → List Bool) → List ℕ → Bool
+  checkTests tests presented = all (tests (containedAfter m cs) (comesTo (check presented 1510)) presented 1510)
 
   abbrev codeTests : (Contents → Result → List ℕ → ℕ → ℕ → Handed → List Bool) → Bool
   codeTests tests =
@@ -462,18 +483,23 @@ record Computed : Type 0 where
   clears : let g = leftAfter (leavingModel spent) fresh visit in
       all (spendsSlot wrongTry (comesTo (leavingModel spent) visit wrongTry) g (leavingModel spent .left g wrongTry) 0) ≡ true
   handed : exchangeTests (readingModel untimed) night 1100 0x20 ≡ true
-  seconds : checkTests (answeringModel oneMore) exchanged namesWrongly ≡ true
+  seconds : checkTests (answeringModel oneMore) exchanged namesWrongly accessText ≡ true
   twice : exchangeTests (leavingModel putBack) exchanged 1510 0x60 ≡ true
   widens : tokenTests (readingModel widened) exchanged refreshesWrongly wider 1510 0x60 ≡ true
-  never : checkTests (answeringModel notPassed) exchanged passesWrongly ≡ true
+  never : checkTests (answeringModel notPassed) exchanged passesWrongly accessText ≡ true
+  itself-typed : every isTyped itself ≡ true
+  itself-fits : every isFitting itself ≡ true
+  forgets : checkTests (leavingModel unkept) itself passesWrongly ownText ≡ true
   silent-code : codeTests (answeringModel unwritten) [] locatesWrongly ≡ true
   silent-exchange : tokenTests (answeringModel unwritten) visit exchangeRepliesWrongly (repeating codeText) 1100 0x20 ≡ true
   silent-refresh : tokenTests (answeringModel unwritten) exchanged refreshRepliesWrongly again 1510 0x60 ≡ true
+  silent-own : tokenTests (answeringModel unwritten) [] credentialsRepliesWrongly (ownFor []) 1100 0x20 ≡ true
   length-code : codeTests (answeringModel unmeasured) [] measuresWrongly ≡ true
-  yields : exchangeTests yieldsModel [] 1100 0x20 ≡ true
+  yields : exchangeTests (stockModel true) [] 1100 0x20 ≡ true
+  refuses : tokenTests (stockModel false) [] credentialsWrongly (ownFor []) 1100 0x20 ≡ true
 
 computed : Computed
-unfolding firstWrong untouchedModel spent putBack widened wrongTry tried exchanged wider again visit night handedAt authorizeAt header exchangeOf repeating byBarnapp tokenAt codeText accessText refreshText exchangeAt refreshFor isTyped unfitTo isFitting isNamedWrongly leftAfter eventsAfter rfcQuery handedTo asked outcomeOn withEvents withEvent isUnfit isUnfitDecision isUnfitRefusal isUnfitCheck isGranted lengthOf isPassed namedIn isLiveCheck namedBy standingAfter issuedBy codeIssue exchangeIssues refreshIssues isEndedBy noIssue isWithinGranted noneBeyond askedOr namesOr isAdmitted idIn isRepeatedBy mayExchange mayRefresh mayPass twenties distinct keep count any firstOr replaceFirst freeSlot fresh every same indexOf splitOn grow hexText hexDigit hexValue readHandle isHandleText unhex isBase64 base64Bytes groupBytes soundGroup sextet none encodeForm encodeByte decodeAfter firstByte extra isEscape plain wellFormed sound isWellFormedForm pieceName pieceValue gives add valueIn formValue names bitFrom bitOf union readScope chosen spaced scopeText indexWhere sampleClients sampleConfidential samplePublic isGrant isMissing isRepeated onlyValue isOnce askedBy scopeAsked fits scopeGiven isBadQuery queryClient isBadClient isBadRedirect isSoundState isBadState isInvalidRequest isOtherType isInvalidScope codeAsked pageReasons redirectReasons readAuthorization separator stateText location codeParameter errorParameter locationText isInvalidForm lowerCase sameAnyCase credentials isBadHeader headerId headerSecret presentedId presentedSecret isUnclearId isImpostor callClient isInvalidClient formReasons readExchange readRefresh readGrant readToken wordText errorReply refusalReply tokenReply refreshMember challenges replyText firstOf unlessRefused refusedPlan codePlan exchangePlan refreshPlan planFor slotsBy checkSlots serveAuthorization serveToken serveCheck
+unfolding firstWrong untouchedModel spent putBack unkept widened itself ownFor ownText wrongTry tried exchanged wider again visit night handedAt authorizeAt header exchangeOf repeating byBarnapp tokenAt codeText accessText refreshText exchangeAt refreshFor isTyped unfitTo isFitting isNamedWrongly leftAfter eventsAfter rfcQuery handedTo asked outcomeOn withEvents withEvent isUnfit isUnfitDecision isUnfitRefusal isUnfitCheck isGranted lengthOf isPassed namedIn isLiveCheck namedBy standingAfter issuedBy codeIssue exchangeIssues refreshIssues ownIssue isEndedBy noIssue isWithinGranted noneBeyond askedOr namesOr isAdmitted idIn isRepeatedBy mayExchange mayRefresh mayHaveOwn mayPass twenties distinct keep count any firstOr replaceFirst freeSlot fresh every same indexOf splitOn grow hexText hexDigit hexValue readHandle isHandleText unhex isBase64 base64Bytes groupBytes soundGroup sextet none encodeForm encodeByte decodeAfter firstByte extra isEscape plain wellFormed sound isWellFormedForm pieceName pieceValue gives add valueIn formValue names bitFrom bitOf union readScope chosen spaced scopeText indexWhere sampleClients sampleConfidential samplePublic isGrant isMissing isRepeated onlyValue isOnce askedBy scopeAsked fits scopeGiven isBadQuery queryClient isBadClient isBadRedirect isSoundState isBadState isInvalidRequest isOtherType isInvalidScope codeAsked pageReasons redirectReasons readAuthorization separator stateText location codeParameter errorParameter locationText isInvalidForm lowerCase sameAnyCase credentials isBadHeader headerId headerSecret presentedId presentedSecret isUnclearId isImpostor callClient isInvalidClient formReasons readExchange readRefresh readCredentials readGrant readToken wordText errorReply refusalReply tokenReply refreshMember challenges replyText firstOf unlessRefused refusedPlan codePlan exchangePlan refreshPlan credentialsPlan planFor slotsBy checkSlots serveAuthorization serveToken serveCheck
 computed = record {
   visit-typed = refl;
   visit-fits = refl;
@@ -493,11 +519,16 @@ computed = record {
   twice = refl;
   widens = refl;
   never = refl;
+  itself-typed = refl;
+  itself-fits = refl;
+  forgets = refl;
   silent-code = refl;
   silent-exchange = refl;
   silent-refresh = refl;
+  silent-own = refl;
   length-code = refl;
   yields = refl;
+  refuses = refl;
 }
 
 -- ---- demand 3 is false of them
@@ -552,12 +583,14 @@ pub record Useless : Type 0 where
   -- the check at 1510
   pub seconds-exchanged : Refuted inventedSeconds exchanged
   pub never-exchanged : Refuted neverPasses exchanged
+  pub forgets-itself : Refuted forgetsOwn itself
   -- the second exchange, at 1510
   pub twice-exchanged : Refuted codeTwice exchanged
   -- the refresh at 1510, which asks for more
   pub widens-exchanged : Refuted widensScope exchanged
-  -- the location at 1000, the reply to the exchange at 1100, the reply to the refresh at 1510
+  -- the location at 1000, the reply to a client for itself and that to the exchange at 1100, the reply to the refresh at 1510
   pub silent-none : Refuted writesNothing []
+  pub silent-own : Refuted writesNothing []
   pub silent-visit : Refuted writesNothing visit
   pub silent-exchanged : Refuted writesNothing exchanged
   -- the location at 1000
@@ -566,7 +599,7 @@ pub record Useless : Type 0 where
   pub yields-none : Refuted yieldsAlways []
 
 pub useless : Useless
-unfolding inventedSeconds neverPasses writesNothing saysNoLength spendsOnRefusal codeTwice AllWellTyped every handedAt tokenAt wrongTry
+unfolding inventedSeconds neverPasses writesNothing saysNoLength spendsOnRefusal codeTwice forgetsOwn yieldsAlways AllWellTyped every handedAt tokenAt wrongTry
 useless =
     let visit-typed = tested-calls visit (computed .visit-typed) in
     let exchanged-typed = tested-calls exchanged (computed .exchanged-typed) in
@@ -598,6 +631,12 @@ useless =
             pass-fails (answering-follows notPassed (λ c r. refl)) exchanged exchanged-typed (computed .exchanged-fits) accessText 1510
             (computed .never);
       };
+      forgets-itself = record {
+        typed = tested-calls itself (computed .itself-typed);
+        fails =
+            pass-fails (leaving-follows unkept sound-unkept) itself (tested-calls itself (computed .itself-typed)) (computed .itself-fits) ownText 1510
+            (computed .forgets);
+      };
       twice-exchanged =
           exchange-refuted (leaving-follows putBack sound-put) exchanged (computed .exchanged-typed) (computed .exchanged-fits) 1510 0x60 refl
           (computed .twice);
@@ -610,6 +649,12 @@ useless =
       silent-none = record {
         typed = tt;
         fails = locate-fails silent-follows [] tt refl rfcQuery 1 7 (handedAt 1000 20 0) code-typed (computed .silent-code);
+      };
+      silent-own = record {
+        typed = tt;
+        fails =
+            credentials-reply-fails silent-follows [] tt refl header (ownFor []) (handedAt 1100 40 0x20) (tested-bytes (countUp 40 0x20) refl)
+            (computed .silent-own);
       };
       silent-visit = record {
         typed = visit-typed;
@@ -629,7 +674,7 @@ useless =
             measure-fails (answering-follows unmeasured (λ c r. refl)) [] tt refl rfcQuery 1 7 (handedAt 1000 20 0) code-typed
             (computed .length-code);
       };
-      yields-none = exchange-refuted yields-follows [] refl refl 1100 0x20 refl (computed .yields);
+      yields-none = exchange-refuted (stock-follows true) [] refl refl 1100 0x20 refl (computed .yields);
     }
 
 -- the whole claim, for every list of calls over the sample registry
@@ -660,6 +705,14 @@ module _ (registry : List ℕ) where
         names = λ presented clock judged e member live is. absurd (List·Memᴰ·not-nil (rw none at member));
         exchangeReplies = λ header body handed asks is granted. absurd (false≢true granted);
         refreshReplies = λ header body handed asks is granted. absurd (false≢true granted);
+        credentialsReplies = λ header body handed asks is granted. absurd (false≢true granted);
         locates = λ query decision farm handed judged granted. absurd (false≢true granted);
         spendsNothing = λ c refused i below. refl;
       }
+
+-- beyond the demand it is shut out: a confidential client that asks for itself must be served
+pub refusing-fails : CredentialsYield refusesEveryone sampleRegistry [] → ⊥
+unfolding refusesEveryone AllWellTyped every handedAt
+refusing-fails =
+    credentials-fails (stock-follows false) [] tt refl header (ownFor []) (handedAt 1100 40 0x20) (tested-bytes (countUp 40 0x20) refl)
+    (computed .refuses)

@@ -34,17 +34,17 @@ use Rattle.protocol.specs.Token.{readToken, tokenReply, refreshMember, readExch
 use Rattle.protocol.specs.Outcomes.{Handed}
 use Rattle.protocol.proofs.Starred.{countUp, rfcQuery}
 use Rattle.history.specs.Calls.{Call, authorization, token, check, WellTyped, AllWellTyped, Result, storeAfterAll, events, freshStore, handedTo}
-use Rattle.history.specs.Contents.{code, access, refresh, Issue, isA, isLiveAt, isOf, originOf, valueOf, isExchange, isRefresh, askedOr, firstTwenty, lastTwenty, Contents, nothingYet, withEvents, twenties, noIssue, noneBeyond, isWithinGranted, namesOr}
-use Rattle.history.specs.Claim.{isAdmitted, mayExchange, mayRefresh, mayPass, Answers, contained, next, Judged, Asks, Demand3, idIn, isRepeatedBy}
+use Rattle.history.specs.Contents.{code, access, refresh, Issue, isA, isLiveAt, isOf, originOf, valueOf, isExchange, isRefresh, isCredentials, askedOr, idIn, caller, firstTwenty, lastTwenty, Contents, nothingYet, withEvents, twenties, noIssue, noneBeyond, isWithinGranted, namesOr}
+use Rattle.history.specs.Claim.{isAdmitted, mayExchange, mayRefresh, mayHaveOwn, mayPass, Answers, contained, next, Judged, Asks, Demand3, isRepeatedBy}
 use Rattle.history.specs.Server.{ours}
 use Rattle.history.proofs.SoundStores.{sound-fresh}
 use Rattle.history.proofs.AnyCall.{unfitTo}
 use Rattle.history.proofs.AllCalls.{fresh-bytes}
-use Rattle.history.proofs.Theorem.{demand3}
+use Rattle.history.proofs.Theorem.{demand3, credentials-yield}
 use Rattle.history.proofs.CallsOnRecords.{resultOn, leftByAll, eventsOn, isFitting, Replayed, replay, replay-result, replay-fit}
 pub use Rattle.history.proofs.Sample.{sample-clients, sample-bytes}
 use Rattle.history.proofs.Sample.{sample-fit, tested-bytes, distinct-never}
-use Rattle.history.proofs.Examples.{inVisit, asking, exchangeAt, authorizeAt, codeText, lessText, refreshText, againText, barnQuery, barnAccess, barnBody, handedAt, header, exchangeOf, repeating, tokenAt, refreshFor, visit, day, evening, Case, Cases, cases, yields, may, isTyped, isAsked, isJudged, leftIn, containedIn, inDay, inEvening, claimAgrees, agreesOn, agrees, computed, accessText, barnCode, barnText, barnToken, codeUntil, redirect, tokenUntil}
+use Rattle.history.proofs.Examples.{inVisit, asking, exchangeAt, authorizeAt, codeText, lessText, refreshText, againText, barnQuery, barnAccess, barnBody, handedAt, header, exchangeOf, repeating, tokenAt, refreshFor, visit, day, evening, Case, Cases, cases, yields, may, isTyped, isAsked, isJudged, leftIn, containedIn, inDay, inEvening, claimAgrees, agreesOn, agrees, computed, accessText, barnCode, barnText, barnToken, codeUntil, redirect, tokenUntil, ownFor, ownText, lessOwnText, pumps, ownUntil, inPumps}
 
 -- ---- what the claim speaks of
 
@@ -133,21 +133,19 @@ module _ (run : Run) where
     asks = token h b handed
 
     abbrev isGrantType : Bool
-    isGrantType = isExchange b || isRefresh b
+    isGrantType = isExchange b || (isRefresh b || isCredentials b)
 
     pub well-asked : Asks ours sampleRegistry cs h b handed
     unfolding isAsked
     well-asked = record {
       judged = judged asks j;
       admitted =
-          ap (λ (clients : List Client). isAdmitted (readToken clients h b .request)) sample-clients
-          ∙ and-left (isAdmitted (readToken sampleClients h b .request)) isGrantType a;
+          ap (λ (clients : List Client). isAdmitted clients h b) sample-clients ∙ and-left (isAdmitted sampleClients h b) isGrantType a;
     }
 
-    asked-refresh : isExchange b ≡ false → isRefresh b ≡ true
+    asked-other : isExchange b ≡ false → (isRefresh b || isCredentials b) ≡ true
     unfolding isAsked
-    asked-refresh e =
-        ap (λ (x : Bool). x || isRefresh b) (sym e) ∙ and-right (isAdmitted (readToken sampleClients h b .request)) isGrantType a
+    asked-other e = ap (λ (x : Bool). x || (isRefresh b || isCredentials b)) (sym e) ∙ and-right (isAdmitted sampleClients h b) isGrantType a
 
     pub by-exchanges : isExchange b ≡ true
         → after asks .granted ≡ mayExchange sampleClients (max (handed .clock) (k .highest)) (k .standing) h b
@@ -162,6 +160,13 @@ module _ (run : Run) where
         claims .refreshes h b handed well-asked e
         ∙ ap (λ (c : Contents). mayRefresh (clientsOf sampleRegistry) (max (handed .clock) (c .highest)) (c .standing) h b) contents-are
         ∙ ap (λ (clients : List Client). mayRefresh clients (max (handed .clock) (k .highest)) (k .standing) h b) sample-clients
+
+    pub by-credentials : isCredentials b ≡ true
+        → after asks .granted ≡ mayHaveOwn sampleClients (max (handed .clock) (k .highest)) (k .standing) h b
+    by-credentials e =
+        credentials-yield sampleRegistry sample-bytes cs typed .yields h b handed well-asked e
+        ∙ ap (λ (c : Contents). mayHaveOwn (clientsOf sampleRegistry) (max (handed .clock) (c .highest)) (c .standing) h b) contents-are
+        ∙ ap (λ (clients : List Client). mayHaveOwn clients (max (handed .clock) (k .highest)) (k .standing) h b) sample-clients
 
     by-exchange-replies : isExchange b ≡ true → after asks .granted ≡ true
         → let scope = originOf code (valueOf b (bytes "code")) (k .standing) .scope in
@@ -182,6 +187,14 @@ module _ (run : Run) where
         in
         subst (λ (c : Contents). Answers handed (after asks) (tokenReply (firstTwenty (handed .random)) [] (scope c))) contents-are
         (claims .refreshReplies h b handed well-asked e granted)
+
+    by-credentials-replies : isCredentials b ≡ true → after asks .granted ≡ true
+        → let scope = askedOr (formValue b (bytes "scope")) (clientAt sampleClients (caller sampleClients h b) .scope) in
+        Answers handed (after asks) (tokenReply (firstTwenty (handed .random)) [] scope)
+    by-credentials-replies e granted =
+        let scope : List Client → ℕ = λ clients. askedOr (formValue b (bytes "scope")) (clientAt clients (caller clients h b) .scope) in
+        subst (λ (clients : List Client). Answers handed (after asks) (tokenReply (firstTwenty (handed .random)) [] (scope clients))) sample-clients
+        (claims .credentialsReplies h b handed well-asked e granted)
 
   pub by-passes : (presented : List ℕ) (clock : ℕ) → isJudged k (check presented clock) ≡ true
       → after (check presented clock) .passed ≡ mayPass (max clock (k .highest)) (k .standing) presented
@@ -216,13 +229,18 @@ module _ (run : Run) where
   pub claimed : (c : Call) → isAsked c ≡ true → isJudged k c ≡ true → yields c (after c) ≡ may k c
   unfolding isAsked yields may
   claimed (authorization query decision farm handed) a j = absurd (false≢true a)
-  claimed (token h b handed) a j = by (isExchange b) refl
+  claimed (token h b handed) a j = by (isExchange b) (isRefresh b) refl refl
     where
-      by : (x : Bool) → isExchange b ≡ x
-          → let t = max (handed .clock) (k .highest) in
-          after (token h b handed) .granted ≡ cond x (mayExchange sampleClients t (k .standing) h b) (mayRefresh sampleClients t (k .standing) h b)
-      by true e = by-exchanges h b handed a j e
-      by false e = by-refreshes h b handed a j (asked-refresh h b handed a j e)
+      t : ℕ
+      t = max (handed .clock) (k .highest)
+
+      by : (x y : Bool) → isExchange b ≡ x → isRefresh b ≡ y
+          → after (token h b handed) .granted
+          ≡ cond x (mayExchange sampleClients t (k .standing) h b)
+          (cond y (mayRefresh sampleClients t (k .standing) h b) (mayHaveOwn sampleClients t (k .standing) h b))
+      by true y e f = by-exchanges h b handed a j e
+      by false true e f = by-refreshes h b handed a j f
+      by false false e f = by-credentials h b handed a j (ap (λ (z : Bool). z || isCredentials b) (sym f) ∙ asked-other h b handed a j e)
   claimed (check presented clock) a j = by-passes presented clock j
 
 -- ---- every case of Examples
@@ -269,6 +287,13 @@ pub record ExchangeAt (clock : ℕ) (paper : Bool) : Type 0 where
   pub judged : isJudged inVisit (exchangeAt clock) ≡ true
   pub says : mayExchange sampleClients (max clock (inVisit .highest)) (inVisit .standing) header (repeating codeText) ≡ paper
 
+-- a client's request for itself after the visit, likewise
+pub record OwnAsked (h b : List ℕ) (paper : Bool) : Type 0 where
+  pub credentials : isCredentials b ≡ true
+  pub asked : isAsked (asking h b 1510) ≡ true
+  pub judged : isJudged inVisit (asking h b 1510) ≡ true
+  pub says : mayHaveOwn sampleClients (max 1510 (inVisit .highest)) (inVisit .standing) h b ≡ paper
+
 pub record Shown : Type 0 where
   -- "The code is live at 1599, not at 1600."
   pub in-time : ExchangeAt 1599 true
@@ -289,6 +314,16 @@ pub record Shown : Type 0 where
   pub refresh-reply-less : textIn (afterDay (asking header (refreshFor refreshText (bytes "&scope=bill+peak")) 1510))
       ≡ bytes "{\"access_token\":\"c0c1c2c3c4c5c6c7c8c9cacbcccdcecfd0d1d2d3\",\"token_type\":\"Bearer\",\"expires_in\":3600,"
       ++ bytes "\"scope\":\"peak bill\"}"
+  -- a client's token for itself: no owner allowed a farm, the set is its own or the one asked, and no refresh token comes with it
+  pub named-own : next ours sampleRegistry pumps (check ownText 1510) .named ≡ record { client = 0; farm = 0; scope = 11; left = 3090 }
+  pub credentials-reply : textIn (next ours sampleRegistry pumps (asking header (ownFor []) 1510))
+      ≡ bytes "{\"access_token\":\"c0c1c2c3c4c5c6c7c8c9cacbcccdcecfd0d1d2d3\",\"token_type\":\"Bearer\",\"expires_in\":3600,"
+      ++ bytes "\"scope\":\"power peak bill\"}"
+  pub credentials-reply-less : textIn (afterDay (asking header (ownFor (bytes "&scope=bill+peak")) 1510))
+      ≡ bytes "{\"access_token\":\"c0c1c2c3c4c5c6c7c8c9cacbcccdcecfd0d1d2d3\",\"token_type\":\"Bearer\",\"expires_in\":3600,"
+      ++ bytes "\"scope\":\"peak bill\"}"
+  pub own-confidential : OwnAsked header (ownFor []) true
+  pub own-public : OwnAsked [] (ownFor (bytes "&client_id=barnapp")) false
   pub located : textIn (afterDay (authorizeAt 1510 0xC0))
       ≡ bytes "https://client.example.com/cb?code=c0c1c2c3c4c5c6c7c8c9cacbcccdcecfd0d1d2d3&state=xyz"
   pub located-barn : textIn (afterDay (authorization barnQuery 1 9 (handedAt 1510 20 0xC0)))
@@ -308,8 +343,11 @@ theDay = record { calls = day; typed = computed .day-typed; contents = inDay; co
 pub theEvening : Run
 theEvening = record { calls = evening; typed = computed .evening-typed; contents = inEvening; contains = computed .evening-contains }
 
+pub thePumps : Run
+thePumps = record { calls = pumps; typed = computed .pumps-typed; contents = inPumps; contains = computed .pumps-contain }
+
 pub shown : Shown
-unfolding theVisit theDay theEvening inVisit barnText redirect codeUntil tokenUntil barnCode inDay barnBody barnToken barnAccess inEvening isTyped isAsked isJudged handedAt authorizeAt header exchangeOf repeating tokenAt codeText accessText refreshText exchangeAt refreshFor barnQuery againText lessText rfcQuery handedTo unfitTo isFitting noIssue noneBeyond isWithinGranted namesOr askedOr twenties idIn isAdmitted isRepeatedBy mayExchange mayRefresh distinct count any firstOr every same indexOf splitOn grow hexText hexDigit hexValue isBase64 base64Bytes groupBytes soundGroup sextet none decodeAfter firstByte extra isEscape plain wellFormed sound encode encodeByte isWellFormedForm pieceName pieceValue gives add valueIn formValue names bitFrom bitOf union readScope chosen spaced scopeText indexWhere sampleClients sampleConfidential samplePublic isMissing isRepeated onlyValue isOnce askedBy scopeAsked isSoundState separator stateText location codeParameter isInvalidForm lowerCase sameAnyCase credentials isBadHeader headerId headerSecret presentedId presentedSecret isUnclearId isImpostor callClient isInvalidClient formReasons readExchange readRefresh readGrant readToken tokenReply refreshMember firstOf unlessRefused
+unfolding thePumps ownFor ownText lessOwnText ownUntil inPumps mayHaveOwn theVisit theDay theEvening inVisit barnText redirect codeUntil tokenUntil barnCode inDay barnBody barnToken barnAccess inEvening isTyped isAsked isJudged handedAt authorizeAt header exchangeOf repeating tokenAt codeText accessText refreshText exchangeAt refreshFor barnQuery againText lessText rfcQuery handedTo unfitTo isFitting noIssue noneBeyond isWithinGranted namesOr askedOr twenties idIn isAdmitted isRepeatedBy mayExchange mayRefresh distinct count any firstOr every same indexOf splitOn grow hexText hexDigit hexValue isBase64 base64Bytes groupBytes soundGroup sextet none decodeAfter firstByte extra isEscape plain wellFormed sound encode encodeByte isWellFormedForm pieceName pieceValue gives add valueIn formValue names bitFrom bitOf union readScope chosen spaced scopeText indexWhere sampleClients sampleConfidential samplePublic isMissing isRepeated onlyValue isOnce askedBy scopeAsked isSoundState separator stateText location codeParameter isInvalidForm lowerCase sameAnyCase credentials isBadHeader headerId headerSecret presentedId presentedSecret isUnclearId isImpostor callClient isInvalidClient formReasons readExchange readRefresh readGrant readToken tokenReply refreshMember firstOf unlessRefused
 shown = record {
   in-time = record { exchange = refl; asked = refl; judged = refl; says = refl };
   too-late = record { exchange = refl; asked = refl; judged = refl; says = refl };
@@ -341,6 +379,21 @@ shown = record {
       answers-text
       (by-refresh-replies theDay header b handed refl refl refl
       (by-refreshes theDay header b handed refl refl refl));
+  named-own = by-names thePumps ownText 1510 refl (ownUntil ownText 11 4600) (List·Memᴰ·tail (List·Memᴰ·head refl)) refl refl;
+  credentials-reply =
+      let b = ownFor [] in
+      let handed = handedAt 1510 40 0xC0 in
+      answers-text
+      (by-credentials-replies thePumps header b handed refl refl refl
+      (by-credentials thePumps header b handed refl refl refl));
+  credentials-reply-less =
+      let b = ownFor (bytes "&scope=bill+peak") in
+      let handed = handedAt 1510 40 0xC0 in
+      answers-text
+      (by-credentials-replies theDay header b handed refl refl refl
+      (by-credentials theDay header b handed refl refl refl));
+  own-confidential = record { credentials = refl; asked = refl; judged = refl; says = refl };
+  own-public = record { credentials = refl; asked = refl; judged = refl; says = refl };
   located =
       answers-text
       (by-locates theDay rfcQuery 1 7 (handedAt 1510 20 0xC0) refl

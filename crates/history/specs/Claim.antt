@@ -1,49 +1,42 @@
--- Demand 3: one claim about every list of calls, and any server.
+-- Demand 3: one claim about every list of calls, and any server; at the end what is claimed beyond it.
 use Prim.Native.Nat.{ℕ, _+_, _-_, _*_, _<_, max}
 use mathlib.Core.Path.{_≡_}
 use mathlib.Core.Bool.{Bool, true, false, not, _&&_}
-use mathlib.Core.List.{List, [], _∷_, _++_, List·Memᴰ}
+use mathlib.Core.List.{List, [], _++_, List·Memᴰ}
 use lib.Dec.{leb, eqb}
-use lib.ListN.{length, take, drop}
+use lib.ListN.{length}
 use lib.Seq.{sets}
 use Rattle.octets.specs.Text.{bytes}
-use Rattle.octets.specs.Lists.{part, indexOf}
+use Rattle.octets.specs.Lists.{part}
 use Rattle.octets.specs.Search.{count, any}
-use Rattle.encoding.specs.Base64.{base64Bytes}
 use Rattle.form.specs.Content.{Value, missing, once, repeated, formValue, isOnce}
 use Rattle.client_registry.specs.Registry.{Client, clientsOf}
 use Rattle.client_registry.specs.Lookup.{numberOf, clientAt}
-use Rattle.protocol.specs.declared.Request.{Request}
-use Rattle.protocol.specs.declared.Request.the-variants.{Refused, Code, Exchange, Refresh}
 use Rattle.protocol.specs.Authorization.{location, codeParameter}
-use Rattle.protocol.specs.Token.{readToken, tokenReply, refreshMember}
+use Rattle.protocol.specs.ClientForms.{isInvalidForm, isInvalidClient}
+use Rattle.protocol.specs.Token.{tokenNames, tokenReply, refreshMember}
 use Rattle.protocol.specs.Outcomes.{Handed}
 use Rattle.history.specs.Calls.{Call, authorization, token, check, Result, Server, storeAfterAll, events, freshStore}
-use Rattle.history.specs.Contents.{code, access, refresh, Issue, isA, isLiveAt, isOf, originOf, valueOf, isExchange, isRefresh, isWithinGranted, askedOr, firstTwenty, lastTwenty, Contents, nothingYet, withEvents, twenties, NeverTwice}
+use Rattle.history.specs.Contents.{code, access, refresh, Issue, isA, isLiveAt, isOf, originOf, valueOf, isExchange, isRefresh, isCredentials, isWithinGranted, askedOr, caller, firstTwenty, lastTwenty, Contents, nothingYet, withEvents, twenties, NeverTwice}
 
--- ---- who calls
+-- ---- who is let in
 
--- the id that a call presents: behind `Basic ` in the header, before the colon; where no header came, in the body
-unfoldable pub idIn : List ℕ → List ℕ → List ℕ
-idIn [] body = valueOf body (bytes "client_id")
-idIn (b ∷ bs) body = let pair = base64Bytes (drop 6 (b ∷ bs)) in take (indexOf 58 pair) pair
-
--- "Well-formed and admitted means that no refusal listed before `invalid_grant` applies."
-unfoldable pub isAdmitted : Request → Bool
-isAdmitted (Refused refusal) = false
-isAdmitted (Code r) = true
-isAdmitted (Exchange r) = true
-isAdmitted (Refresh r) = true
+-- "Well-formed and admitted means that no refusal listed before `invalid_grant` applies.": of these, `invalid_request` and
+-- `invalid_client` by the form and its client. The others the claim says in its own words: which grant is asked for; a code or
+-- refresh token that is missing is nothing that was issued; a client that asks for itself must be confidential.
+unfoldable pub isAdmitted : List Client → List ℕ → List ℕ → Bool
+isAdmitted clients header body =
+    not (isInvalidForm tokenNames (bytes "grant_type") header body) && not (isInvalidClient clients header body)
 
 -- ---- what the calls must contain
 
 -- "the codes, access and refresh tokens that the calls issued, not exchanged and live at T, its own code left out, plus
--- the slots needed (two to exchange, one to refresh) are at most 512"
+-- the slots needed (two to exchange, one to refresh) are at most 512"; "one slot" for a client's token for itself
 abbrev pub roomToExchange : ℕ → List Issue → List ℕ → Bool
 roomToExchange t standing presented = leb (count (λ e. isLiveAt t e && not (isA code e && isOf presented e)) standing + 2) 512
 
-abbrev pub roomToRefresh : ℕ → List Issue → Bool
-roomToRefresh t standing = leb (count (isLiveAt t) standing + 1) 512
+abbrev pub roomForOne : ℕ → List Issue → Bool
+roomForOne t standing = leb (count (isLiveAt t) standing + 1) 512
 
 -- "any bound redirect address is repeated"
 unfoldable pub isRepeatedBy : Value → Value → Bool
@@ -52,17 +45,13 @@ isRepeatedBy (once address) given = isOnce address given
 isRepeatedBy repeated given = false
 
 module _ (clients : List Client) (t : ℕ) (standing : List Issue) (header body : List ℕ) where
-  -- the number of the client that calls
-  abbrev pub caller : ℕ
-  caller = numberOf (idIn header body) clients
-
   -- "an issue of that code to that client, live by the highest clock seen, not yet exchanged, any bound redirect address is
   -- repeated"
   abbrev pub isExchangeable : Issue → Bool
   isExchangeable e =
       isLiveAt t e
       && (isA code e && isOf (valueOf body (bytes "code")) e
-      && (eqb (e .client) caller && isRepeatedBy (e .address) (formValue body (bytes "redirect_uri"))))
+      && (eqb (e .client) (caller clients header body) && isRepeatedBy (e .address) (formValue body (bytes "redirect_uri"))))
 
   -- "and there is room"
   unfoldable pub mayExchange : Bool
@@ -73,11 +62,17 @@ module _ (clients : List Client) (t : ℕ) (standing : List Issue) (header body 
   isRefreshable e =
       isLiveAt t e
       && (isA refresh e && isOf (valueOf body (bytes "refresh_token")) e
-      && (eqb (e .client) caller && isWithinGranted (formValue body (bytes "scope")) (e .scope)))
+      && (eqb (e .client) (caller clients header body) && isWithinGranted (formValue body (bytes "scope")) (e .scope)))
 
   -- "and there is room"
   unfoldable pub mayRefresh : Bool
-  mayRefresh = any isRefreshable standing && roomToRefresh t standing
+  mayRefresh = any isRefreshable standing && roomForOne t standing
+
+  -- a client for itself: "confidential clients only", "Scope is as at the authorization counter", "one slot"
+  unfoldable pub mayHaveOwn : Bool
+  mayHaveOwn =
+      let client = clientAt clients (caller clients header body) in
+      client .confidential && isWithinGranted (formValue body (bytes "scope")) (client .scope) && roomForOne t standing
 
 -- "a live issue of it as an access token"
 unfoldable pub mayPass : ℕ → List Issue → List ℕ → Bool
@@ -122,7 +117,7 @@ module _ (server : Server) (registry : List ℕ) (cs : List Call) where
   -- a call at the token endpoint, well-formed and by an admitted client, is judged
   pub record Asks (header body : List ℕ) (handed : Handed) : Type 0 where
     pub judged : Judged (token header body handed)
-    pub admitted : isAdmitted (readToken clients header body .request) ≡ true
+    pub admitted : isAdmitted clients header body ≡ true
 
   pub record Demand3 : Type 0 where
     -- "a well-formed exchange by an admitted client yields tokens exactly when .."
@@ -151,6 +146,11 @@ module _ (server : Server) (registry : List ℕ) (cs : List Call) where
         → let granted = originOf refresh (valueOf body (bytes "refresh_token")) standing .scope in
         let scope = askedOr (formValue body (bytes "scope")) granted in
         Answers handed (next (token header body handed)) (tokenReply (firstTwenty (handed .random)) [] scope)
+    -- a client for itself, with the scope asked, or its set; "no refresh token"
+    pub credentialsReplies : (header body : List ℕ) (handed : Handed) → Asks header body handed → isCredentials body ≡ true
+        → next (token header body handed) .granted ≡ true
+        → let own = askedOr (formValue body (bytes "scope")) (clientAt clients (caller clients header body) .scope) in
+        Answers handed (next (token header body handed)) (tokenReply (firstTwenty (handed .random)) [] own)
     -- a code that is issued stands in the location, for the client that the query names: it is the random bytes
     pub locates : (query : List ℕ) (decision farm : ℕ) (handed : Handed) → Judged (authorization query decision farm handed)
         → next (authorization query decision farm handed) .granted ≡ true
@@ -160,3 +160,9 @@ module _ (server : Server) (registry : List ℕ) (cs : List Call) where
     -- "A refused try spends nothing": "after a refused try every slot keeps its bytes", 512 slots of 35 bytes behind the mark
     pub spendsNothing : (c : Call) → next c .granted ≡ false
         → (i : ℕ) → i < 512 → part (next c .store) (8 + i * 35) 35 ≡ part store (8 + i * 35) 35
+
+  -- Beyond the demand, which holds of a server that issues nothing: a well-formed request of an admitted client for itself yields
+  -- exactly when the client is confidential, the scope asked is within its set, and there is room for one.
+  pub record CredentialsYield : Type 0 where
+    pub yields : (header body : List ℕ) (handed : Handed) → Asks header body handed → isCredentials body ≡ true
+        → next (token header body handed) .granted ≡ mayHaveOwn clients (timeAt (handed .clock)) standing header body

@@ -8,8 +8,9 @@ use mathlib.Core.List.{List, [], _∷_, _++_}
 use lib.Dec.{ltb}
 use lib.ListN.{length, take, drop}
 use Rattle.octets.specs.Text.{bytes}
-use Rattle.octets.specs.Lists.{part, every, same}
+use Rattle.octets.specs.Lists.{part, every, same, indexOf}
 use Rattle.octets.specs.Search.{count, firstOr, keep}
+use Rattle.encoding.specs.Base64.{base64Bytes}
 use Rattle.form.specs.Content.{Value, missing, once, repeated, formValue, onlyValue, isOnce}
 use Rattle.scope.specs.Set.{has}
 use Rattle.scope.specs.Value.{readScope}
@@ -74,6 +75,9 @@ isExchange body = isOnce (bytes "authorization_code") (formValue body (bytes "gr
 abbrev pub isRefresh : List ℕ → Bool
 isRefresh body = isOnce (bytes "refresh_token") (formValue body (bytes "grant_type"))
 
+abbrev pub isCredentials : List ℕ → Bool
+isCredentials body = isOnce (bytes "client_credentials") (formValue body (bytes "grant_type"))
+
 unfoldable pub noneBeyond : ScopeValue → ℕ → Bool
 noneBeyond (Names asked) granted = every (λ k. not (has (asked .bits) k) || has granted k) (0 ∷ 1 ∷ 2 ∷ 3 ∷ 4 ∷ 5 ∷ 6 ∷ 7 ∷ [])
 noneBeyond Invalid granted = false
@@ -94,6 +98,17 @@ askedOr missing granted = granted
 askedOr (once v) granted = namesOr (readScope v) granted
 askedOr repeated granted = granted
 
+-- ---- who calls
+
+-- the id that a call presents: behind `Basic ` in the header, before the colon; where no header came, in the body
+unfoldable pub idIn : List ℕ → List ℕ → List ℕ
+idIn [] body = valueOf body (bytes "client_id")
+idIn (b ∷ bs) body = let pair = base64Bytes (drop 6 (b ∷ bs)) in take (indexOf 58 pair) pair
+
+-- the number of the client that calls
+abbrev pub caller : List Client → List ℕ → List ℕ → ℕ
+caller clients header body = numberOf (idIn header body) clients
+
 -- ---- codes and tokens in answers
 
 -- a code or token is 40 characters
@@ -113,7 +128,7 @@ refreshIn r =
     fortyAt (length (bytes "{\"access_token\":\"") + 40 + length (bytes "\",\"token_type\":\"Bearer\",\"expires_in\":3600,\"refresh_token\":\"")) r
 
 -- ---- what one call that was granted adds and ends: "its client, farm and scope come from that call's arguments and the issue
--- of the code or refresh token presented"
+-- of the code or refresh token presented"; of a client's token for itself, from the arguments and the registry
 
 unfoldable pub codeIssue : List Client → ℕ → List ℕ → ℕ → Result → Issue
 codeIssue clients t query farm r =
@@ -152,11 +167,26 @@ module _ (t : ℕ) (standing : List Issue) (body : List ℕ) (r : Result) where
       let o = originOf refresh (valueOf body (bytes "refresh_token")) standing in
       tokenIssue access t (accessIn r) o (askedOr (formValue body (bytes "scope")) (o .scope)) ∷ []
 
--- "A call that answered with a code or token issued it"
+-- a client's token for itself: "Such tokens carry farm 0"; "No scope means the client's set."
+unfoldable pub ownIssue : List Client → ℕ → List ℕ → List ℕ → Result → Issue
+ownIssue clients t header body r =
+    let number = caller clients header body in
+    record {
+      sort = access;
+      text = accessIn r;
+      client = number;
+      farm = 0;
+      scope = askedOr (formValue body (bytes "scope")) (clientAt clients number .scope);
+      address = missing;
+      expiry = t + lifetime access;
+    }
+
+-- "A call that answered with a code or token issued it"; "Demand 3 counts these grants among the issues"
 unfoldable pub issuedBy : List Client → ℕ → List Issue → Call → Result → List Issue
 issuedBy clients t standing (authorization query decision farm handed) r = codeIssue clients t query farm r ∷ []
 issuedBy clients t standing (token header body handed) r =
-    cond (isExchange body) (exchangeIssues t standing body r) (cond (isRefresh body) (refreshIssues t standing body r) [])
+    cond (isExchange body) (exchangeIssues t standing body r)
+    (cond (isRefresh body) (refreshIssues t standing body r) (cond (isCredentials body) (ownIssue clients t header body r ∷ []) []))
 issuedBy clients t standing (check presented clock) r = []
 
 -- "A code is exchanged once an exchange of it has answered 200."

@@ -1,5 +1,5 @@
--- history: demand 3, one claim about every list of calls at the three endpoints, and demand 1, one claim about every call
--- on any store.
+-- history: demand 3, one claim about every list of calls at the three endpoints, what is claimed of them beyond it, and demand 1,
+-- one claim about every call on any store.
 --
 -- Calls: a call, what comes of it, any server, and a run of calls over one registry and one store. Contents: what the calls
 -- contain, read from their arguments and answers alone. Claim: what is claimed of every list of calls. Server: our server.

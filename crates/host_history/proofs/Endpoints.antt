@@ -29,14 +29,15 @@ use Rattle.protocol.specs.declared.CheckAnswer.the-variants.{NotLive, Live}
 use Rattle.protocol.specs.declared.ErrorWord.the-variants.{InvalidRequest}
 use Rattle.protocol.specs.declared.ExchangeRequest.{ExchangeRequest}
 use Rattle.protocol.specs.declared.RefreshRequest.{RefreshRequest}
+use Rattle.protocol.specs.declared.CredentialsRequest.{CredentialsRequest}
 use Rattle.protocol.specs.declared.Reading.{Reading}
-use Rattle.protocol.specs.declared.Request.the-variants.{Code, Exchange, Refresh}
-use Rattle.protocol.specs.Requests.{unlessRefused, noHandle}
+use Rattle.protocol.specs.declared.Request.the-variants.{Code, Exchange, Refresh, Credentials}
+use Rattle.protocol.specs.Requests.{unlessRefused, presentingNone}
 use Rattle.protocol.specs.Authorization.{queryClient, codeAsked, pageReasons, redirectReasons, readAuthorization}
-use Rattle.protocol.specs.ClientForms.{formReasons}
-use Rattle.protocol.specs.Token.{readExchange, readRefresh, readGrant, tokenNames, readToken}
+use Rattle.protocol.specs.ClientForms.{callClient, formReasons}
+use Rattle.protocol.specs.Token.{readExchange, readRefresh, credentialsReasons, readCredentials, readGrant, tokenNames, readToken}
 use Rattle.protocol.specs.Refusals.{Reason, when, firstOf}
-use Rattle.protocol.specs.Granting.{Plan, refusedPlan, codePlan, exchangePlan, refreshPlan, planFor, planOf, decisionOn, shownSlot, liveToken, checkSlots}
+use Rattle.protocol.specs.Granting.{Plan, refusedPlan, codePlan, exchangePlan, refreshPlan, credentialsPlan, planFor, planOf, decisionOn, shownSlot, liveToken, checkSlots}
 use Rattle.protocol.specs.Outcomes.{Handed, clockAlone, Endpoint, unfitReasons, admit, outcomeBy, outcome, serveAuthorization, serveToken, serveCheck, authorizationOutcome, tokenOutcome, checkOutcome, authorizationEndpoint, tokenEndpoint, checkEndpoint}
 use Rattle.protocol.proofs.Reasons.{decided}
 use Rattle.history.specs.Server.{isUnfitRefusal}
@@ -67,9 +68,9 @@ authorization-decides query decision farm registry store handed =
     answered (authorizationEndpoint query decision farm) registry store handed (λ a. ofAuthorization (a .decision) ≡ true) (λ i. refl)
     (λ t slots.
     let plan : Reading → Plan = planOf t slots (handed .random) in
-    let reading : Reading = record { request = Code code; presented = noHandle } in
+    let reading : Reading = presentingNone (Code code) in
     decided (λ d. ofAuthorization (decisionOn (plan (unlessRefused d reading))) ≡ true)
-    (pageReasons clients query ++ redirectReasons client query decision) (refl, (refl, (refl, (refl, (refl, (refl, (refl, tt)))))))
+    (pageReasons clients query ++ redirectReasons client query decision farm) (refl, (refl, (refl, (refl, (refl, (refl, (refl, tt)))))))
     (λ _. decided (λ d. ofAuthorization d ≡ true) (plan reading .reasons) (refl, (refl, tt)) (λ _. refl)))
 
 -- ---- the token endpoint
@@ -92,17 +93,25 @@ module _ (t : ℕ) (slots : List Slot) (random : List ℕ) where
   refresh-decides presented r =
       decided (λ d. ofToken d ≡ true) (refreshPlan t slots random presented r .reasons) (refl, (refl, (refl, (refl, tt)))) (λ _. refl)
 
+  credentials-decides : (r : CredentialsRequest) → Decides (presentingNone (Credentials r))
+  unfolding planFor credentialsPlan ofToken
+  credentials-decides r =
+      decided (λ d. ofToken d ≡ true) (credentialsPlan t slots random r .reasons) (refl, (refl, tt)) (λ _. refl)
+
   token-read : (clients : List Client) (header body : List ℕ) → Decides (readToken clients header body)
-  unfolding readToken readGrant readExchange readRefresh formReasons unlessRefused planFor refusedPlan firstOf ofToken
+  unfolding readToken readGrant readExchange readRefresh readCredentials formReasons unlessRefused planFor refusedPlan firstOf ofToken
   token-read clients header body =
       let grant = formValue body (bytes "grant_type") in
+      let client = clientAt clients (callClient clients header body) in
       let P : Reading → Decision → Type 0 = λ reading d. Decides (unlessRefused d reading) in
       let missing : List ℕ → List Reason = λ name. when (isMissing (formValue body name)) (Token InvalidRequest) ∷ [] in
       decided (P _) (formReasons tokenNames (bytes "grant_type") clients header body) (refl, (refl, tt))
       (λ _. either (isOnce (bytes "authorization_code") grant) _ _
       (decided (P _) (missing (bytes "code")) (refl, tt) (λ _. exchange-decides _ _))
       (either (isOnce (bytes "refresh_token") grant) _ _
-      (decided (P _) (missing (bytes "refresh_token")) (refl, tt) (λ _. refresh-decides _ _)) refl))
+      (decided (P _) (missing (bytes "refresh_token")) (refl, tt) (λ _. refresh-decides _ _))
+      (either (isOnce (bytes "client_credentials") grant) _ _
+      (decided (P _) (credentialsReasons client body) (refl, (refl, tt)) (λ _. credentials-decides _)) refl)))
 
 pub token-decides : (header body registry store : List ℕ) (handed : Handed)
     → ofToken (tokenOutcome header body registry store handed .answer .decision) ≡ true

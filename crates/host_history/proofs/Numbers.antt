@@ -12,7 +12,7 @@ use mathlib.Core.List.{List}
 use Prim.Native.Nat.{ℕ}
 use lib.Dec.{eqb}
 use Rattle.protocol.specs.declared.ErrorWord.{ErrorWord}
-use Rattle.protocol.specs.declared.ErrorWord.the-variants.{InvalidRequest, InvalidClient, InvalidGrant, InvalidScope, UnsupportedGrantType, UnsupportedResponseType, AccessDenied, TemporarilyUnavailable, ServerError}
+use Rattle.protocol.specs.declared.ErrorWord.the-variants.{InvalidRequest, InvalidClient, InvalidGrant, InvalidScope, UnsupportedGrantType, UnsupportedResponseType, AccessDenied, TemporarilyUnavailable, ServerError, UnauthorizedClient}
 use Rattle.protocol.specs.declared.Input.{Input}
 use Rattle.protocol.specs.declared.Input.the-variants.{Buffers, Registry, Store, Clock}
 use Rattle.protocol.specs.declared.PageCause.{PageCause}
@@ -55,6 +55,7 @@ word-numbers UnsupportedResponseType = (refl, refl)
 word-numbers AccessDenied = (refl, refl)
 word-numbers TemporarilyUnavailable = (refl, refl)
 word-numbers ServerError = (refl, refl)
+word-numbers UnauthorizedClient = (refl, refl)
 
 -- ---- refusals 1 to 4
 

@@ -1,4 +1,5 @@
--- Demand 3 over the exports: the claim of every list of calls at the server `exports` (`host-demand3`).
+-- Demand 3 over the exports: the claim of every list of calls at the server `exports` (`host-demand3`), and what is claimed beyond it
+-- (`host-credentials-yield`).
 --
 -- What a call is seen to leave by its numbers is what demand 3 sees of it (`same-server`), since the numbers tell the cases apart
 -- (Numbers). So the two servers are one, and what is proved of ours is proved of the exports.
@@ -13,8 +14,8 @@ use Rattle.protocol.specs.Outcomes.{authorizationOutcome, tokenOutcome, checkOu
 use Rattle.authorization_server.specs.Numbers.{checkReply}
 use Rattle.history.specs.Calls.{Call, authorization, token, check, AllWellTyped, Server}
 use Rattle.history.specs.Server.{outcomeOf, isUnfit, isGranted, isPassed, namedIn, namedBy, lengthOf, ours}
-use Rattle.history.specs.Claim.{Demand3}
-use Rattle.history.proofs.Theorem.{demand3}
+use Rattle.history.specs.Claim.{Demand3, CredentialsYield}
+use Rattle.history.proofs.Theorem.{demand3, credentials-yield}
 use Rattle.host_history.specs.Exports.{authorizationSeen, tokenSeen, checkSeen, exports}
 use Rattle.host_history.proofs.Numbers.{nothing-else}
 
@@ -43,3 +44,7 @@ same-server = fun-ext (λ registry. fun-ext (λ store. fun-ext (λ c. same-resul
 -- For every registry of bytes, fit or not, and every list of calls at the exports from a store of zero bytes.
 pub host-demand3 : (registry : List ℕ) → Bytes registry → (cs : List Call) → AllWellTyped cs → Demand3 exports registry cs
 host-demand3 registry small cs typed = subst (λ (s : Server). Demand3 s registry cs) (sym same-server) (demand3 registry small cs typed)
+
+pub host-credentials-yield : (registry : List ℕ) → Bytes registry → (cs : List Call) → AllWellTyped cs → CredentialsYield exports registry cs
+host-credentials-yield registry small cs typed =
+    subst (λ (s : Server). CredentialsYield s registry cs) (sym same-server) (credentials-yield registry small cs typed)

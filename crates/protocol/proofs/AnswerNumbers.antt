@@ -5,7 +5,7 @@ use Prim.Native.Nat.{ℕ}
 use mathlib.Core.Path.{_≡_, refl}
 use mathlib.Core.List.{List, [], _∷_, map}
 use Rattle.protocol.specs.declared.ErrorWord.{ErrorWord}
-use Rattle.protocol.specs.declared.ErrorWord.the-variants.{InvalidRequest, InvalidClient, InvalidGrant, InvalidScope, UnsupportedGrantType, UnsupportedResponseType, AccessDenied, TemporarilyUnavailable, ServerError}
+use Rattle.protocol.specs.declared.ErrorWord.the-variants.{InvalidRequest, InvalidClient, InvalidGrant, InvalidScope, UnsupportedGrantType, UnsupportedResponseType, AccessDenied, TemporarilyUnavailable, ServerError, UnauthorizedClient}
 use Rattle.protocol.specs.declared.Input.the-variants.{Buffers, Registry, Store, Clock}
 use Rattle.protocol.specs.declared.PageCause.the-variants.{Query, Client, RedirectUri}
 use Rattle.protocol.specs.declared.Failure.the-variants.{NoRoom, Clash}
@@ -27,6 +27,7 @@ words =
     ∷ AccessDenied
     ∷ TemporarilyUnavailable
     ∷ ServerError
+    ∷ UnauthorizedClient
     ∷ []
 
 -- refusals 1 to 4 and 5 to 7 are a number alone
@@ -43,14 +44,14 @@ page-numbers = refl
 -- an error word has its number, at both endpoints; with a redirect there is no status
 redirect-numbers : map (λ w. numbers (Redirect w)) words
     ≡ (0 ∷ 1 ∷ 0 ∷ []) ∷ (0 ∷ 2 ∷ 0 ∷ []) ∷ (0 ∷ 3 ∷ 0 ∷ []) ∷ (0 ∷ 4 ∷ 0 ∷ []) ∷ (0 ∷ 5 ∷ 0 ∷ []) ∷ (0 ∷ 6 ∷ 0 ∷ []) ∷ (0 ∷ 7 ∷ 0 ∷ [])
-    ∷ (0 ∷ 8 ∷ 0 ∷ []) ∷ (0 ∷ 9 ∷ 0 ∷ []) ∷ []
+    ∷ (0 ∷ 8 ∷ 0 ∷ []) ∷ (0 ∷ 9 ∷ 0 ∷ []) ∷ (0 ∷ 10 ∷ 0 ∷ []) ∷ []
 unfolding numbers words
 redirect-numbers = refl
 
 -- "`invalid_client`, status 401 .. all else 400"
 token-numbers : map (λ w. numbers (Token w)) words
     ≡ (0 ∷ 1 ∷ 400 ∷ []) ∷ (0 ∷ 2 ∷ 401 ∷ []) ∷ (0 ∷ 3 ∷ 400 ∷ []) ∷ (0 ∷ 4 ∷ 400 ∷ []) ∷ (0 ∷ 5 ∷ 400 ∷ []) ∷ (0 ∷ 6 ∷ 400 ∷ [])
-    ∷ (0 ∷ 7 ∷ 400 ∷ []) ∷ (0 ∷ 8 ∷ 400 ∷ []) ∷ (0 ∷ 9 ∷ 400 ∷ []) ∷ []
+    ∷ (0 ∷ 7 ∷ 400 ∷ []) ∷ (0 ∷ 8 ∷ 400 ∷ []) ∷ (0 ∷ 9 ∷ 400 ∷ []) ∷ (0 ∷ 10 ∷ 400 ∷ []) ∷ []
 unfolding numbers words
 token-numbers = refl
 

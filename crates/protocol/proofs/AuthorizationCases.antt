@@ -1,4 +1,5 @@
--- The authorization endpoint, case by case: each sentence of document 01 that decides something there, on both sides.
+-- The authorization endpoint, case by case: each sentence of document 01, and of document 02's first request, that decides something there,
+-- on both sides.
 --
 -- In order: queries that are answered with a page (refusals 5 to 7), each redirect with an error word, and codes. Reasons stand in the
 -- order in which they count, and between two neighbours a query to which both apply, and the same with the first mended.
@@ -29,11 +30,11 @@ use Rattle.protocol.specs.Granting.{refusedPlan, codePlan, planFor, slot
 use Rattle.protocol.specs.Outcomes.{serveAuthorization}
 use Rattle.protocol.proofs.Cases.{authorization, holding, slot, countUp, Case, Row, row}
 
--- ---- the usual call: at clock 1000 and a fresh store, random bytes 00 to 13 hex, an output of 1,024 bytes, farm 7
+-- ---- the usual call: at clock 1000 and a fresh store, random bytes 00 to 13 hex, an output of 1,024 bytes, a farm, which mostly is 7
 
-abbrev decides : List ℕ → ℕ → List ℕ → List ℕ → List Slot → Case
-decides query decision numbers text slots = record {
-  call = authorization query decision 7;
+abbrev decidesFor : ℕ → List ℕ → ℕ → List ℕ → List ℕ → List Slot → Case
+decidesFor farm query decision numbers text slots = record {
+  call = authorization query decision farm;
   registry = sampleRegistry;
   store = holding 0 [];
   clock = 1000;
@@ -44,6 +45,9 @@ decides query decision numbers text slots = record {
   after = holding 1000 slots;
 }
 
+abbrev decides : List ℕ → ℕ → List ℕ → List ℕ → List Slot → Case
+decides query decision numbers text slots = decidesFor 7 query decision numbers text slots
+
 -- an allowed query that is answered with a page
 abbrev pageOn : List ℕ → ℕ → Case
 pageOn query number = decides query 1 (number ∷ 0 ∷ []) [] []
@@ -52,9 +56,12 @@ abbrev page : String → ℕ → Case
 page query number = pageOn (bytes query) number
 
 -- one that is sent back to client 0 with an error word, which has a number over C; `state` is what stands behind the word
+abbrev errorFor : ℕ → List ℕ → ℕ → ℕ → String → String → Case
+errorFor farm query decision number word state =
+    decidesFor farm query decision (0 ∷ number ∷ []) (bytes "https://client.example.com/cb?error=" ++ bytes word ++ bytes state) []
+
 abbrev errorOn : List ℕ → ℕ → ℕ → String → String → Case
-errorOn query decision number word state =
-    decides query decision (0 ∷ number ∷ []) (bytes "https://client.example.com/cb?error=" ++ bytes word ++ bytes state) []
+errorOn query decision number word state = errorFor 7 query decision number word state
 
 abbrev invalidRequest : String → String → Case
 invalidRequest query state = errorOn (bytes query) 1 1 "invalid_request" state
@@ -67,6 +74,10 @@ invalidScope query state = errorOn (bytes query) 1 4 "invalid_scope" state
 
 abbrev denied : String → ℕ → String → Case
 denied query decision state = errorOn (bytes query) decision 7 "access_denied" state
+
+-- one for farm 0, by the owner's decision
+abbrev farmless : String → ℕ → ℕ → String → String → Case
+farmless query decision number word state = errorFor 0 (bytes query) decision number word state
 
 -- a code of client 0, by its kind and scope, and what stands behind it in the location; and one of client 1
 abbrev codeOn : List ℕ → ℕ → ℕ → List ℕ → Case
@@ -130,8 +141,9 @@ pages =
 
 -- ---- redirects with an error word
 
+-- what a code computes by is unfolded too, so that a definition that grants one computes to another answer
 pub errors : List Row
-unfolding every same indexOf splitOn grow any indexWhere bigEndianBytes hexValue decodeAfter firstByte extra isEscape plain wellFormed sound encode encodeByte isWellFormedForm pieceName pieceValue gives add valueIn formValue isMissing isRepeated onlyValue isOnce names bitFrom bitOf union readScope soundText soundId soundRedirect soundSecret soundField soundCommon soundPublic soundConfidential soundRecord recordSize recordsBehind soundRecords distinct fitRegistry recordOf registryOf sampleConfidential samplePublic sampleClients sampleRegistry freeSlot concat encodeSlot fitSlot wordText firstOf askedBy scopeAsked fits scopeGiven unlessRefused isBadQuery queryClient isBadClient isBadRedirect isSoundState isBadState isInvalidRequest isOtherType isInvalidScope pageReasons redirectReasons readAuthorization separator stateText location errorParameter locationText refusedPlan planFor slotsBy serveAuthorization
+unfolding every same indexOf splitOn grow count any indexWhere replaceFirst bigEndianBytes hexText hexDigit hexValue decodeAfter firstByte extra isEscape plain wellFormed sound encode encodeByte isWellFormedForm pieceName pieceValue gives add valueIn formValue isMissing isRepeated onlyValue isOnce names bitFrom bitOf union readScope soundText soundId soundRedirect soundSecret soundField soundCommon soundPublic soundConfidential soundRecord recordSize recordsBehind soundRecords distinct fitRegistry recordOf registryOf sampleConfidential samplePublic sampleClients sampleRegistry freeSlot concat encodeSlot fitSlot wordText firstOf askedBy scopeAsked fits scopeGiven unlessRefused isBadQuery queryClient isBadClient isBadRedirect isSoundState isBadState isInvalidRequest isOtherType isInvalidScope codeAsked pageReasons redirectReasons readAuthorization separator stateText location errorParameter codeParameter locationText refusedPlan codePlan planFor slotsBy serveAuthorization
 errors =
     -- `invalid_request`: response_type missing, empty, repeated
     row (invalidRequest "client_id=s6BhdRkqt3" "") refl
@@ -175,6 +187,18 @@ errors =
     ∷ row (denied "response_type=code&client_id=s6BhdRkqt3&state=xyz" 2 "&state=xyz") refl
     ∷ row (denied "response_type=code&client_id=s6BhdRkqt3&state=xyz" (2 ^ 64 - 1) "&state=xyz") refl
     ∷ row (denied "response_type=code&client_id=s6BhdRkqt3&state=xyz" 257 "&state=xyz") refl
+    -- "an owner's decision for farm 0 is from now on `access_denied`", whatever it is; farm 1 has its code (`held` of `AuthorizationStores`)
+    ∷ row (farmless "response_type=code&client_id=s6BhdRkqt3&state=xyz" 1 7 "access_denied" "&state=xyz") refl
+    ∷ row (farmless "response_type=code&client_id=s6BhdRkqt3" 1 7 "access_denied" "") refl
+    ∷ row (farmless "response_type=code&client_id=s6BhdRkqt3&state=xyz" 0 7 "access_denied" "&state=xyz") refl
+    ∷ row (farmless "response_type=code&client_id=s6BhdRkqt3&state=xyz" 2 7 "access_denied" "&state=xyz") refl
+    ∷ row (decidesFor 0 (bytes "response_type=code&client_id=barnapp&state=x") 1 (0 ∷ 7 ∷ [])
+    (bytes "https://barn.example/r?x=1&error=access_denied&state=x") []) refl
+    -- in the place of his denial: each reason before it and farm 0
+    ∷ row (farmless "response_type=code&client_id=s6BhdRkqt3&scope=cows&state=xyz" 1 4 "invalid_scope" "&state=xyz") refl
+    ∷ row (farmless "response_type=token&client_id=s6BhdRkqt3" 1 6 "unsupported_response_type" "") refl
+    ∷ row (farmless "client_id=s6BhdRkqt3" 1 1 "invalid_request" "") refl
+    ∷ row (decidesFor 0 (bytes "response_type=code&client_id=other") 1 (6 ∷ 0 ∷ []) [] []) refl
     ∷ []
 
 -- ---- codes

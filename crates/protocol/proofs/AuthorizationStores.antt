@@ -49,14 +49,14 @@ crowded time slots = record { time = time; first = slots; rest = other }
 abbrev lastly : ℕ → Slot → ShortStore
 lastly time s = record { time = time; first = replicate 511 other; rest = s }
 
--- ---- calls: of client 0 with a state, allowed, at clock 1000 with the random bytes 00 to 13 hex
+-- ---- calls: of client 0 with a state, allowed for farm 7, at clock 1000 with the random bytes 00 to 13 hex
 
 abbrev query : List ℕ
 query = bytes "response_type=code&client_id=s6BhdRkqt3&state=xyz"
 
-abbrev answered : ℕ → ℕ → List ℕ → ShortStore → ℕ → String → ShortStore → Case
-answered clock decision random before word text after = record {
-  call = authorization query decision 7;
+abbrev answeredFor : ℕ → ℕ → ℕ → List ℕ → ShortStore → ℕ → String → ShortStore → Case
+answeredFor farm clock decision random before word text after = record {
+  call = authorization query decision farm;
   registry = sampleRegistry;
   store = before;
   clock = clock;
@@ -66,6 +66,9 @@ answered clock decision random before word text after = record {
   text = bytes "https://client.example.com/cb?" ++ bytes text ++ bytes "&state=xyz";
   after = after;
 }
+
+abbrev answered : ℕ → ℕ → List ℕ → ShortStore → ℕ → String → ShortStore → Case
+answered clock decision random before word text after = answeredFor 7 clock decision random before word text after
 
 -- a code is issued, and the store after
 abbrev issued : ℕ → ShortStore → ShortStore → Case
@@ -81,6 +84,10 @@ full before = answered 1000 1 (countUp 20 0) before 8 "error=temporarily_unavail
 
 abbrev clash : List ℕ → ShortStore → Case
 clash random before = answered 1000 1 random before 9 "error=server_error" (seenAt 1000 before)
+
+-- allowed for farm 0: "an owner's decision for farm 0 is from now on `access_denied`"
+abbrev farmless : ℕ → List ℕ → ShortStore → ShortStore → Case
+farmless clock random before after = answeredFor 0 clock 1 random before 7 "error=access_denied" after
 
 -- a page, at a store with slots in use, one of which has run out
 abbrev pageAt : String → ℕ → Case
@@ -149,6 +156,7 @@ roomAndClashes =
     -- no slot is free or has run out; a denied request is not told so
     row (full (crowded 0 [])) refl
     ∷ row (answered 1000 0 (countUp 20 0) (crowded 0 []) 7 "error=access_denied" (crowded 1000 [])) refl
+    ∷ row (farmless 1000 (countUp 20 0) (crowded 0 []) (crowded 1000 [])) refl
     -- a slot that runs out a second later is none, one that runs out now is; the first and the last place
     ∷ row (full (crowded 0 (other ∷ other ∷ until 1001 ∷ []))) refl
     ∷ row (issued 1000 (crowded 0 (other ∷ other ∷ until 1000 ∷ [])) (crowded 1000 (other ∷ other ∷ codeAt 1000 ∷ []))) refl
@@ -164,6 +172,8 @@ roomAndClashes =
     -- both no slot and a clash, and the clash alone
     ∷ row (answered 1000 1 (countUp 20 100) (crowded 0 []) 8 "error=temporarily_unavailable" (crowded 1000 [])) refl
     ∷ row (clash (countUp 20 100) (holding 0 (other ∷ []))) refl
+    -- a decision for farm 0 is not told of a clash either
+    ∷ row (farmless 1000 (countUp 20 100) (holding 0 (other ∷ [])) (holding 1000 (other ∷ []))) refl
     -- the random bytes are the handle of a slot in use, of any kind and at any place, run out or not
     ∷ row (clash (countUp 20 0) (holding 0 (slot 1 (countUp 20 0) 1 9 1 1000 ∷ []))) refl
     ∷ row (clash (countUp 20 0) (holding 0 (slot 2 (countUp 20 0) 1 9 1 1001 ∷ []))) refl
@@ -197,6 +207,8 @@ times =
     -- a call that is refused stores T too, and no other byte changes: with an error word, and with each page
     ∷ row (answered 1700 0 (countUp 20 0) (holding 1600 (other ∷ until 1 ∷ [])) 7 "error=access_denied" (holding 1700 (other ∷ until 1 ∷ []))) refl
     ∷ row (answered 1100 0 (countUp 20 0) (holding 1600 (other ∷ until 1 ∷ [])) 7 "error=access_denied" (holding 1600 (other ∷ until 1 ∷ []))) refl
+    ∷ row (farmless 1700 (countUp 20 0) (holding 1600 (other ∷ until 1 ∷ [])) (holding 1700 (other ∷ until 1 ∷ []))) refl
+    ∷ row (farmless 1100 (countUp 20 0) (holding 1600 (other ∷ until 1 ∷ [])) (holding 1600 (other ∷ until 1 ∷ []))) refl
     ∷ row (pageAt "a=%4" 5) refl
     ∷ row (pageAt "client_id=other" 6) refl
     ∷ row (pageAt "client_id=barnapp&redirect_uri=x" 7) refl
@@ -206,11 +218,13 @@ times =
 pub held : List Row
 unfolding public addresses every same indexOf splitOn grow count any indexWhere replaceFirst bigEndianBytes hexText hexDigit hexValue decodeAfter firstByte extra isEscape plain wellFormed sound encode encodeByte isWellFormedForm pieceName pieceValue gives add valueIn formValue isMissing isRepeated onlyValue isOnce names bitFrom bitOf union readScope soundText soundId soundRedirect soundSecret soundField soundCommon soundPublic soundConfidential soundRecord recordSize recordsBehind soundRecords distinct fitRegistry recordOf registryOf sampleConfidential samplePublic sampleClients sampleRegistry freeSlot concat encodeSlot fitSlot firstOf askedBy scopeAsked fits scopeGiven unlessRefused isBadQuery queryClient isBadClient isBadRedirect isSoundState isBadState isInvalidRequest isOtherType isInvalidScope codeAsked pageReasons redirectReasons readAuthorization separator stateText location codeParameter locationText codePlan planFor slotsBy serveAuthorization
 held =
-    -- the farm that the owner allowed, of 32 bits; the client's number, and its set
-    row (holds sampleRegistry "response_type=code&client_id=s6BhdRkqt3&scope=bill" 0
-    (bytes "https://client.example.com/cb?") (slot 1 (countUp 20 0) 0 0 8 1600)) refl
+    -- the farm that the owner allowed, of 32 bits and any but 0; the client's number, and its set
+    row (holds sampleRegistry "response_type=code&client_id=s6BhdRkqt3&scope=bill" 1
+    (bytes "https://client.example.com/cb?") (slot 1 (countUp 20 0) 0 1 8 1600)) refl
     ∷ row (holds sampleRegistry "response_type=code&client_id=barnapp&redirect_uri=https://barn.example/r?x=1" (2 ^ 32 - 1)
     (bytes "https://barn.example/r?x=1&") (slot 2 (countUp 20 0) 1 (2 ^ 32 - 1) 1 1600)) refl
+    ∷ row (holds sampleRegistry "response_type=code&client_id=barnapp" (2 ^ 24) (bytes "https://barn.example/r?x=1&")
+    (slot 1 (countUp 20 0) 1 (2 ^ 24) 1 1600)) refl
     -- an address that ends in `?`, and one with `&` alone
     ∷ row (holds addresses "response_type=code&client_id=b" 7 (bytes "https://b.example/?&") (slot 1 (countUp 20 0) 1 7 255 1600)) refl
     ∷ row (holds addresses "response_type=code&client_id=c" 7 (bytes "https://c.example/a&b?") (slot 1 (countUp 20 0) 2 7 224 1600)) refl

@@ -34,7 +34,7 @@ use Rattle.protocol.specs.declared.AuthorizationAnswer.{AuthorizationAns
 use Rattle.protocol.specs.declared.TokenAnswer.{TokenAnswer}
 use Rattle.protocol.specs.declared.Input.the-variants.{Buffers, Registry, Store, Clock}
 use Rattle.protocol.specs.declared.ErrorWord.{ErrorWord}
-use Rattle.protocol.specs.declared.ErrorWord.the-variants.{InvalidRequest, InvalidClient, InvalidGrant, InvalidScope, UnsupportedGrantType, UnsupportedResponseType, AccessDenied, TemporarilyUnavailable, ServerError}
+use Rattle.protocol.specs.declared.ErrorWord.the-variants.{InvalidRequest, InvalidClient, InvalidGrant, InvalidScope, UnsupportedGrantType, UnsupportedResponseType, AccessDenied, TemporarilyUnavailable, ServerError, UnauthorizedClient}
 use Rattle.protocol.specs.declared.Refusal.{Refusal}
 use Rattle.protocol.specs.declared.Refusal.the-variants.{Unfit, ErrorPage, Redirect, Token, Failed}
 use Rattle.protocol.specs.declared.Decision.{Decision}
@@ -60,6 +60,7 @@ word-length UnsupportedResponseType = lit≤ tt
 word-length AccessDenied = lit≤ tt
 word-length TemporarilyUnavailable = lit≤ tt
 word-length ServerError = lit≤ tt
+word-length UnauthorizedClient = lit≤ tt
 
 -- a handle in hex, of any random bytes
 hex-most : (l : List ℕ) → length (hexText (take handleSize l)) ≤ 2 * handleSize

@@ -13,6 +13,7 @@ pub mod AuthorizationStores
 pub mod CheckCases
 pub mod TokenRows
 pub mod TokenCases
+pub mod CredentialsCases
 pub mod Starred
 pub mod Visit
 pub mod Table

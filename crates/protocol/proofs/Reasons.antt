@@ -30,6 +30,16 @@ first-counts none = refl
 first-counts (stop e) = rw e
 first-counts (pass e f) = rw e (first-counts f)
 
+-- every list ends so
+pub ends-first : (rs : List Reason) → First rs (firstOf rs)
+unfolding firstOf
+ends-first [] = none
+ends-first (r ∷ rs) = by (r .applies) refl (ends-first rs)
+  where
+    by : (b : Bool) → r .applies ≡ b → First rs (firstOf rs) → First (r ∷ rs) (cond b (Refuse (r .refusal)) (firstOf rs))
+    by true e rest = stop e
+    by false e rest = pass e rest
+
 -- nothing is refused exactly when no reason applies
 pub grant-every : (rs : List Reason) → isGrant (firstOf rs) ≡ every (λ r. not (r .applies)) rs
 unfolding firstOf isGrant every

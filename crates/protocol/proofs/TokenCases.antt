@@ -2,7 +2,8 @@
 --
 -- Each case is a call from raw bytes and what the paper has for it: status, error number, challenge, the whole reply, and the
 -- store after (`Cases`). Where a test is about one clause, everything else about the call is right, so that a definition without
--- the clause grants it; where two reasons apply, the case that comes next has the first of them mended.
+-- the clause grants it; where two reasons apply, the case that comes next has the first of them mended. The cases of the
+-- client_credentials grant are in `CredentialsCases`.
 --
 -- In order: clients, slots and stores; answers; calls; the cases, by the paper's order of refusals; two limits that no call shows.
 -- Assumes nothing.
@@ -43,56 +44,56 @@ use Rattle.protocol.proofs.Cases.{token, ShortStore, holding, slot, cou
 abbrev mill : Client
 mill = record { confidential = true; id = bytes "mill 2"; redirect = bytes "https://mill.example/cb"; scope = 255; secret = bytes "a+b:%41" }
 
-abbrev clients : List Client
+abbrev pub clients : List Client
 clients = sampleConfidential ∷ samplePublic ∷ mill ∷ []
 
-registry : List ℕ
+pub registry : List ℕ
 registry = registryOf clients
 
-registry-fit : fitRegistry registry ≡ true
+pub registry-fit : fitRegistry registry ≡ true
 unfolding registry fitRegistry distinct soundRecords recordsBehind recordSize soundRecord soundConfidential soundPublic soundCommon soundField soundSecret soundRedirect soundId soundText every same samplePublic sampleConfidential registryOf recordOf
 registry-fit = refl
 
-registry-clients : clientsOf registry ≡ clients
+pub registry-clients : clientsOf registry ≡ clients
 unfolding registry recordsBehind recordSize samplePublic sampleConfidential registryOf recordOf
 registry-clients = refl
 
-abbrev handle : ℕ → List ℕ
+abbrev pub handle : ℕ → List ℕ
 handle k = countUp 20 k
 
 -- the code of the visit, bound to its redirect address
-abbrev code : Slot
+abbrev pub code : Slot
 code = slot 2 (handle 0) 0 7 11 1600
 
 -- barnapp's codes, without and with a bound redirect address
-abbrev unboundCode : Slot
+abbrev pub unboundCode : Slot
 unboundCode = slot 1 (handle 60) 1 4294967295 1 1600
 
 abbrev boundCode : Slot
 boundCode = slot 2 (handle 120) 1 8 1 1600
 
-abbrev refreshToken : Slot
+abbrev pub refreshToken : Slot
 refreshToken = slot 4 (handle 80) 0 16909060 11 2593000
 
 -- granted more than its client's set has: what a token was granted counts
 abbrev barnRefresh : Slot
 barnRefresh = slot 4 (handle 140) 1 8 255 2593000
 
-abbrev accessToken : Slot
+abbrev pub accessToken : Slot
 accessToken = slot 3 (handle 100) 0 7 11 4600
 
 abbrev runOut : Slot
 runOut = slot 3 (handle 160) 1 8 1 1599
 
 -- an access token with another expiry
-abbrev until : ℕ → Slot
+abbrev pub until : ℕ → Slot
 until expiry = slot 3 (handle 180) 1 8 1 expiry
 
 -- slots with the handle of the visit's code: another code, a refresh and an access token
-abbrev twin : ℕ → ℕ → Slot
+abbrev pub twin : ℕ → ℕ → Slot
 twin client expiry = slot 1 (handle 0) client 9 2 expiry
 
-abbrev refreshTwin : Slot
+abbrev pub refreshTwin : Slot
 refreshTwin = slot 4 (handle 0) 0 9 2 2593000
 
 abbrev accessTwin : Slot
@@ -106,71 +107,71 @@ abbrev refresh : Slot → ℕ → List ℕ → Slot
 refresh origin t new = slot 4 new (origin .client) (origin .farm) (origin .scope) (t + 2592000)
 
 -- a store with these slots, the others free, or in use and live
-abbrev some : List Slot → ShortStore
+abbrev pub some : List Slot → ShortStore
 some first = holding 1000 first
 
-abbrev crowded : List Slot → ShortStore
+abbrev pub crowded : List Slot → ShortStore
 crowded first = record { time = 1000; first = first; rest = accessToken }
 
 -- the same at another time
-abbrev at : ℕ → ShortStore → ShortStore
+abbrev pub at : ℕ → ShortStore → ShortStore
 at time l = record { time = time; first = l .first; rest = l .rest }
 
 -- the store of most calls, by the slots that a grant changes: 0, 1, 4 and 6
 abbrev heldWith : Slot → Slot → Slot → Slot → ShortStore
 heldWith a b c d = some (a ∷ b ∷ refreshToken ∷ accessToken ∷ c ∷ barnRefresh ∷ d ∷ [])
 
-abbrev held : ShortStore
+abbrev pub held : ShortStore
 held = heldWith code unboundCode boundCode runOut
 
 -- one whose last slot alone is in use, and has run out
-abbrev lastUsed : ShortStore
+abbrev pub lastUsed : ShortStore
 lastUsed = record { time = 1000; first = code ∷ replicate 510 freeSlot; rest = until 1000 }
 
 -- ---- answers
 
-record Said : Type 0 where
+pub record Said : Type 0 where
   numbers : List ℕ
   text : List ℕ
 
 -- status, error number, challenge, reply
-abbrev said : ℕ → ℕ → ℕ → List ℕ → Said
+abbrev pub said : ℕ → ℕ → ℕ → List ℕ → Said
 said status error challenge text = record { numbers = 0 ∷ status ∷ error ∷ challenge ∷ []; text = text }
 
-abbrev invalidRequest : Said
+abbrev pub invalidRequest : Said
 invalidRequest = said 400 1 0 (bytes "{\"error\":\"invalid_request\"}")
 
 -- without a challenge, and with one
-abbrev invalidClient : Said
+abbrev pub invalidClient : Said
 invalidClient = said 401 2 0 (bytes "{\"error\":\"invalid_client\"}")
 
-abbrev challenged : Said
+abbrev pub challenged : Said
 challenged = said 401 2 1 (bytes "{\"error\":\"invalid_client\"}")
 
-abbrev invalidGrant : Said
+abbrev pub invalidGrant : Said
 invalidGrant = said 400 3 0 (bytes "{\"error\":\"invalid_grant\"}")
 
-abbrev invalidScope : Said
+abbrev pub invalidScope : Said
 invalidScope = said 400 4 0 (bytes "{\"error\":\"invalid_scope\"}")
 
 -- says that the client was let in, and no more
-abbrev unsupported : Said
+abbrev pub unsupported : Said
 unsupported = said 400 5 0 (bytes "{\"error\":\"unsupported_grant_type\"}")
 
-abbrev noRoom : Said
+abbrev pub noRoom : Said
 noRoom = said 503 0 0 []
 
-abbrev clash : Said
+abbrev pub clash : Said
 clash = said 500 0 0 []
 
 -- the replies to an exchange and to a refresh, by the scope names; the tokens are 20 to 33 and 34 to 47 hex
-abbrev bothTokens : String → Said
+abbrev pub bothTokens : String → Said
 bothTokens scope =
     said 200 0 0
     (bytes "{\"access_token\":\"202122232425262728292a2b2c2d2e2f30313233\",\"token_type\":\"Bearer\",\"expires_in\":3600,"
     ++ bytes "\"refresh_token\":\"3435363738393a3b3c3d3e3f4041424344454647\",\"scope\":\"" ++ bytes scope ++ bytes "\"}")
 
-abbrev accessAlone : String → Said
+abbrev pub accessAlone : String → Said
 accessAlone scope =
     said 200 0 0
     (bytes "{\"access_token\":\"202122232425262728292a2b2c2d2e2f30313233\",\"token_type\":\"Bearer\",\"expires_in\":3600,\"scope\":\""
@@ -179,11 +180,11 @@ accessAlone scope =
 -- ---- calls
 
 -- "random 20 to 47 hex"
-abbrev twoHandles : List ℕ
+abbrev pub twoHandles : List ℕ
 twoHandles = countUp 40 32
 
 -- a call on a store, what it is answered, and the store after
-record Visit : Type 0 where
+pub record Visit : Type 0 where
   store : ShortStore
   clock : ℕ
   random : List ℕ
@@ -205,27 +206,27 @@ caseOf v = record {
   after = v .after;
 }
 
-abbrev row : (v : Visit) → agreesOn clients (caseOf v) ≡ true → Row
+abbrev pub row : (v : Visit) → agreesOn clients (caseOf v) ≡ true → Row
 row v agreed = rowOn (caseOf v) registry-fit clients registry-clients agreed
 
-abbrev call : ShortStore → ℕ → List ℕ → List ℕ → List ℕ → Said → ShortStore → Visit
+abbrev pub call : ShortStore → ℕ → List ℕ → List ℕ → List ℕ → Said → ShortStore → Visit
 call store clock random header body paper after =
     record { store = store; clock = clock; random = random; header = header; body = body; said = paper; after = after }
 
 -- one that is refused: no slot changes, and the time is stored
-abbrev refused : ShortStore → ℕ → List ℕ → List ℕ → List ℕ → Said → Visit
+abbrev pub refused : ShortStore → ℕ → List ℕ → List ℕ → List ℕ → Said → Visit
 refused store clock random header body paper = call store clock random header body paper (at clock store)
 
 -- the same a second before the codes run out
-abbrev refuses : List ℕ → List ℕ → Said → Visit
+abbrev pub refuses : List ℕ → List ℕ → Said → Visit
 refuses header body paper = refused held 1599 twoHandles header body paper
 
 -- ---- headers and bodies
 
-abbrev basic : List ℕ
+abbrev pub basic : List ℕ
 basic = bytes "Basic czZCaGRSa3F0MzpnWDFmQmF0M2JW"
 
-abbrev exchange : List ℕ
+abbrev pub exchange : List ℕ
 exchange =
     bytes "grant_type=authorization_code&code=000102030405060708090a0b0c0d0e0f10111213&redirect_uri=https%3A%2F%2Fclient.example.com%2Fcb"
 
@@ -233,10 +234,10 @@ exchange =
 abbrev addressless : List ℕ
 addressless = bytes "grant_type=authorization_code&code=000102030405060708090a0b0c0d0e0f10111213"
 
-abbrev barn : List ℕ
+abbrev pub barn : List ℕ
 barn = bytes "grant_type=authorization_code&client_id=barnapp&code=3c3d3e3f404142434445464748494a4b4c4d4e4f"
 
-abbrev refreshing : List ℕ
+abbrev pub refreshing : List ℕ
 refreshing = bytes "grant_type=refresh_token&refresh_token=505152535455565758595a5b5c5d5e5f60616263"
 
 -- so long a body
@@ -272,13 +273,14 @@ barnExchanges body =
     call held 1599 twoHandles [] body (bothTokens "power")
     (at 1599 (heldWith code (access unboundCode 1599 (handle 32) 1) boundCode (refresh unboundCode 1599 (handle 52))))
 
--- a refresh for a scope
-abbrev refreshed : Slot → ShortStore
-refreshed issued = heldWith code unboundCode boundCode issued
+-- the store of most calls once a single token was issued, in the slot that has run out
+abbrev pub heldBeside : Slot → ShortStore
+heldBeside issued = heldWith code unboundCode boundCode issued
 
+-- a refresh for a scope
 abbrev refreshes : List ℕ → String → ℕ → Visit
 refreshes body names scope =
-    call held 1599 twoHandles basic body (accessAlone names) (at 1599 (refreshed (access refreshToken 1599 (handle 32) scope)))
+    call held 1599 twoHandles basic body (accessAlone names) (at 1599 (heldBeside (access refreshToken 1599 (handle 32) scope)))
 
 abbrev newToken : Slot
 newToken = access refreshToken 1599 (handle 32) 11
@@ -286,14 +288,14 @@ newToken = access refreshToken 1599 (handle 32) 11
 -- a refresh with these last 20 random bytes
 abbrev ignoring : List ℕ → Visit
 ignoring second =
-    call held 1599 (handle 32 ++ second) basic refreshing (accessAlone "power peak bill") (at 1599 (refreshed newToken))
+    call held 1599 (handle 32 ++ second) basic refreshing (accessAlone "power peak bill") (at 1599 (heldBeside newToken))
 
 -- barnapp's refresh, for all eight names
 abbrev allEight : List ℕ → Visit
 allEight asked =
     call held 1599 twoHandles []
     (bytes "grant_type=refresh_token&client_id=barnapp&refresh_token=8c8d8e8f909192939495969798999a9b9c9d9e9f" ++ asked)
-    (accessAlone "power peak tariff bill milking drying pump solar") (at 1599 (refreshed (access barnRefresh 1599 (handle 32) 255)))
+    (accessAlone "power peak tariff bill milking drying pump solar") (at 1599 (heldBeside (access barnRefresh 1599 (handle 32) 255)))
 
 -- in a crowded store, from slots to slots
 abbrev exchangesIn : List Slot → List Slot → Visit

@@ -4,7 +4,7 @@ use mathlib.Core.Bool.{Bool, true, false}
 use mathlib.Core.List.{List}
 use Rattle.octets.specs.Text.{bytes}
 use Rattle.protocol.specs.declared.ErrorWord.{ErrorWord}
-use Rattle.protocol.specs.declared.ErrorWord.the-variants.{InvalidRequest, InvalidClient, InvalidGrant, InvalidScope, UnsupportedGrantType, UnsupportedResponseType, AccessDenied, TemporarilyUnavailable, ServerError}
+use Rattle.protocol.specs.declared.ErrorWord.the-variants.{InvalidRequest, InvalidClient, InvalidGrant, InvalidScope, UnsupportedGrantType, UnsupportedResponseType, AccessDenied, TemporarilyUnavailable, ServerError, UnauthorizedClient}
 use Rattle.protocol.specs.declared.Input.{Input}
 use Rattle.protocol.specs.declared.Input.the-variants.{Buffers, Registry, Store, Clock}
 use Rattle.protocol.specs.declared.PageCause.{PageCause}
@@ -27,6 +27,7 @@ wordText UnsupportedResponseType = bytes "unsupported_response_type"
 wordText AccessDenied = bytes "access_denied"
 wordText TemporarilyUnavailable = bytes "temporarily_unavailable"
 wordText ServerError = bytes "server_error"
+wordText UnauthorizedClient = bytes "unauthorized_client"
 
 -- the number of a word over C; 0 is no word
 abbrev pub wordNumber : ErrorWord → ℕ
@@ -39,6 +40,7 @@ wordNumber UnsupportedResponseType = 6
 wordNumber AccessDenied = 7
 wordNumber TemporarilyUnavailable = 8
 wordNumber ServerError = 9
+wordNumber UnauthorizedClient = 10
 
 -- the table of refusals 1 to 7
 abbrev pub inputNumber : Input → ℕ
@@ -79,6 +81,7 @@ wordStatus UnsupportedResponseType = 400
 wordStatus AccessDenied = 400
 wordStatus TemporarilyUnavailable = 400
 wordStatus ServerError = 400
+wordStatus UnauthorizedClient = 400
 
 -- "Status 503, empty: fewer slots free or run out than needed. Status 500, empty: a handle .. equals"
 abbrev pub failureStatus : Failure → ℕ

@@ -24,7 +24,7 @@ use Rattle.protocol.specs.declared.Request.the-variants.{Code}
 use Rattle.protocol.specs.declared.Reading.{Reading}
 use Rattle.protocol.specs.Limits.{mostForm, mostState}
 use Rattle.protocol.specs.Refusals.{Reason, when, firstOf}
-use Rattle.protocol.specs.Requests.{scopeAsked, fits, scopeGiven, noHandle, unlessRefused}
+use Rattle.protocol.specs.Requests.{scopeAsked, fits, scopeGiven, noFarm, presentingNone, unlessRefused}
 
 -- ---- reading the query
 
@@ -68,23 +68,30 @@ isInvalidRequest query =
 unfoldable pub isOtherType : List ℕ → Bool
 isOtherType query = not (isOnce (bytes "code") (formValue query (bytes "response_type")))
 
--- "`invalid_scope` (bad form, unknown name, or beyond the client's set)"; "No scope means the client's set."
+-- "`invalid_scope` (bad form, unknown name, or beyond the client's set)"
 unfoldable pub isInvalidScope : Client → List ℕ → Bool
-isInvalidScope client query = not (fits (scopeAsked (formValue query (bytes "scope"))) (client .scope))
+isInvalidScope client form = not (fits (scopeAsked (formValue form (bytes "scope"))) (client .scope))
 
--- the code that the query asks for. "No scope means the client's set."; "The code is bound when redirect_uri was given."
+-- "No scope means the client's set."
+abbrev pub scopeFor : Client → List ℕ → ℕ
+scopeFor client form = scopeGiven (scopeAsked (formValue form (bytes "scope"))) (client .scope)
+
+-- "1 allows a farm number of 32 bits, any other number denies"; "an owner's decision for farm 0 is from now on `access_denied`"
+abbrev pub isDenied : ℕ → ℕ → Bool
+isDenied decision farm = not (eqb decision 1) || eqb farm noFarm
+
+-- the code that the query asks for. "The code is bound when redirect_uri was given."
 unfoldable pub codeAsked : List Client → List ℕ → ℕ → CodeRequest
 codeAsked clients query farm =
     let number = queryClient clients query in
     record {
       client = number;
       farm = farm;
-      scope = scopeGiven (scopeAsked (formValue query (bytes "scope"))) (clientAt clients number .scope);
+      scope = scopeFor (clientAt clients number) query;
       bound = not (isMissing (formValue query (bytes "redirect_uri")));
     }
 
--- refusals 5 to 7, those that the client is told, and else the request. "1 allows a farm number of 32 bits, any other
--- number denies"
+-- refusals 5 to 7, those that the client is told, and else the request
 unfoldable pub pageReasons : List Client → List ℕ → List Reason
 pageReasons clients query =
     when (isBadQuery query) (ErrorPage badQuery)
@@ -92,19 +99,19 @@ pageReasons clients query =
     ∷ when (isBadRedirect (clientAt clients (queryClient clients query)) query) (ErrorPage badRedirect)
     ∷ []
 
-unfoldable pub redirectReasons : Client → List ℕ → ℕ → List Reason
-redirectReasons client query decision =
+unfoldable pub redirectReasons : Client → List ℕ → ℕ → ℕ → List Reason
+redirectReasons client query decision farm =
     when (isInvalidRequest query) (Redirect InvalidRequest)
     ∷ when (isOtherType query) (Redirect UnsupportedResponseType)
     ∷ when (isInvalidScope client query) (Redirect InvalidScope)
-    ∷ when (not (eqb decision 1)) (Redirect AccessDenied)
+    ∷ when (isDenied decision farm) (Redirect AccessDenied)
     ∷ []
 
 unfoldable pub readAuthorization : List Client → List ℕ → ℕ → ℕ → Reading
 readAuthorization clients query decision farm =
     let client = clientAt clients (queryClient clients query) in
-    unlessRefused (firstOf (pageReasons clients query ++ redirectReasons client query decision))
-    (record { request = Code (codeAsked clients query farm); presented = noHandle })
+    unlessRefused (firstOf (pageReasons clients query ++ redirectReasons client query decision farm))
+    (presentingNone (Code (codeAsked clients query farm)))
 
 -- ---- writing the location
 

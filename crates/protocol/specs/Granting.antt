@@ -3,7 +3,7 @@
 -- `t` is the call's time T, the larger of the clock and the store's time. `random` is the call's random bytes.
 use Prim.Native.Nat.{ℕ, _+_, _-_}
 use mathlib.Core.Bool.{Bool, true, false, cond, not, _&&_, _||_}
-use mathlib.Core.List.{List, [], _∷_}
+use mathlib.Core.List.{List, [], _∷_, _++_}
 use lib.Dec.{leb, eqb}
 use lib.ListN.{take, drop}
 use Rattle.octets.specs.Lists.{same}
@@ -23,14 +23,15 @@ use Rattle.protocol.specs.declared.Decision.the-variants.{Grant, Refuse}
 use Rattle.protocol.specs.declared.CodeRequest.{CodeRequest}
 use Rattle.protocol.specs.declared.ExchangeRequest.{ExchangeRequest}
 use Rattle.protocol.specs.declared.RefreshRequest.{RefreshRequest}
+use Rattle.protocol.specs.declared.CredentialsRequest.{CredentialsRequest}
 use Rattle.protocol.specs.declared.Request.{Request}
-use Rattle.protocol.specs.declared.Request.the-variants.{Refused, Code, Exchange, Refresh}
+use Rattle.protocol.specs.declared.Request.the-variants.{Refused, Code, Exchange, Refresh, Credentials}
 use Rattle.protocol.specs.declared.Reading.{Reading}
 use Rattle.protocol.specs.declared.LiveToken.{LiveToken}
 use Rattle.protocol.specs.declared.CheckAnswer.{CheckAnswer}
 use Rattle.protocol.specs.declared.CheckAnswer.the-variants.{NotLive, Live}
 use Rattle.protocol.specs.Refusals.{Reason, when, firstOf}
-use Rattle.protocol.specs.Requests.{fits, scopeGiven}
+use Rattle.protocol.specs.Requests.{fits, scopeGiven, noFarm}
 
 -- ---- handles and slots
 
@@ -78,6 +79,11 @@ abbrev pub tokenOn : Slot → ℕ → ℕ → List ℕ → ℕ → Slot
 tokenOn origin t kind handle scope =
     record { kind = kind; handle = handle; client = origin .client; farm = origin .farm; scope = scope; expiry = t + lifetimeOf kind }
 
+-- an access token of the client for itself. "Such tokens carry farm 0"
+abbrev pub clientToken : ℕ → List ℕ → CredentialsRequest → Slot
+clientToken t handle r =
+    record { kind = kindAccess; handle = handle; client = r .client; farm = noFarm; scope = r .scope; expiry = t + lifetimeOf kindAccess }
+
 -- ---- plans
 
 pub record Plan : Type 0 where
@@ -90,6 +96,32 @@ pub record Plan : Type 0 where
   pub scope : ℕ
   pub bringsRefresh : Bool
 
+-- a plan with more reasons, which count before its own
+abbrev pub afterReasons : List Reason → Plan → Plan
+afterReasons rs plan = record {
+  reasons = rs ++ plan .reasons;
+  granted = plan .granted;
+  denied = plan .denied;
+  scope = plan .scope;
+  bringsRefresh = plan .bringsRefresh;
+}
+
+-- a single code or token: it takes one slot, and its handle must not be "that of any slot in use", run out or not
+abbrev pub singlePlan : ℕ → List Slot → Refusal → Refusal → Slot → Plan
+singlePlan t slots full clash new = record {
+  reasons = when (not (leb 1 (room t slots))) full ∷ when (isTaken (new .handle) slots) clash ∷ [];
+  granted = issue t new slots;
+  denied = slots;
+  scope = new .scope;
+  bringsRefresh = false;
+}
+
+-- a single access token. "Status 503, empty: fewer slots free or run out than needed. Status 500, empty: a handle to be issued
+-- equals that of any slot in use"
+abbrev pub accessPlan : ℕ → List Slot → Slot → Plan
+accessPlan t slots access = singlePlan t slots (Failed NoRoom) (Failed Clash) access
+
+-- "A call that issues a single token takes the first 20 random bytes and ignores the last 20."
 module _ (t : ℕ) (slots : List Slot) (random : List ℕ) where
   -- a call that was refused before the store is looked at
   unfoldable pub refusedPlan : Refusal → Plan
@@ -97,16 +129,7 @@ module _ (t : ℕ) (slots : List Slot) (random : List ℕ) where
 
   -- "`temporarily_unavailable` (no slot), `server_error` (random bytes equal to the handle of any slot in use, run out or not)"
   unfoldable pub codePlan : CodeRequest → Plan
-  codePlan r = record {
-    reasons =
-        when (not (leb 1 (room t slots))) (Redirect TemporarilyUnavailable)
-        ∷ when (isTaken (firstHandle random) slots) (Redirect ServerError)
-        ∷ [];
-    granted = issue t (newCode t (firstHandle random) r) slots;
-    denied = slots;
-    scope = r .scope;
-    bringsRefresh = false;
-  }
+  codePlan r = singlePlan t slots (Redirect TemporarilyUnavailable) (Redirect ServerError) (newCode t (firstHandle random) r)
 
   -- "`invalid_grant` (not found, run out, other client; for kind 2, redirect_uri missing or not equal to the registered one)
   -- .. Status 503, empty: fewer slots free or run out than needed. Status 500, empty: a handle to be issued equals that of
@@ -131,30 +154,24 @@ module _ (t : ℕ) (slots : List Slot) (random : List ℕ) where
       }
 
   -- "`invalid_grant` (not found, run out, other client) .. `invalid_scope` (refresh: bad form, unknown name, or beyond the
-  -- granted set)", 503 and 500. "A refresh issues one access token with the asked scope, or the granted one; the refresh
-  -- token stays"
+  -- granted set)". "A refresh issues one access token with the asked scope, or the granted one; the refresh token stays"
   unfoldable pub refreshPlan : HandleText → RefreshRequest → Plan
   refreshPlan presented r =
       let token = shownSlot soughtRefresh presented slots in
-      let scope = scopeGiven (r .scope) (token .scope) in
-      record {
-        reasons =
-            when (not (isOwn t (r .client) token)) (Token InvalidGrant)
-            ∷ when (not (fits (r .scope) (token .scope))) (Token InvalidScope)
-            ∷ when (not (leb 1 (room t slots))) (Failed NoRoom)
-            ∷ when (isTaken (firstHandle random) slots) (Failed Clash)
-            ∷ [];
-        granted = issue t (tokenOn token t kindAccess (firstHandle random) scope) slots;
-        denied = slots;
-        scope = scope;
-        bringsRefresh = false;
-      }
+      afterReasons
+      (when (not (isOwn t (r .client) token)) (Token InvalidGrant) ∷ when (not (fits (r .scope) (token .scope))) (Token InvalidScope) ∷ [])
+      (accessPlan t slots (tokenOn token t kindAccess (firstHandle random) (scopeGiven (r .scope) (token .scope))))
+
+  -- "no refresh token, one slot"
+  unfoldable pub credentialsPlan : CredentialsRequest → Plan
+  credentialsPlan r = accessPlan t slots (clientToken t (firstHandle random) r)
 
   unfoldable pub planFor : HandleText → Request → Plan
   planFor presented (Refused refusal) = refusedPlan refusal
   planFor presented (Code r) = codePlan r
   planFor presented (Exchange r) = exchangePlan presented r
   planFor presented (Refresh r) = refreshPlan presented r
+  planFor presented (Credentials r) = credentialsPlan r
 
   abbrev pub planOf : Reading → Plan
   planOf reading = planFor (reading .presented) (reading .request)

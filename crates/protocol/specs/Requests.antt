@@ -15,6 +15,7 @@ use Rattle.protocol.specs.declared.Decision.{Decision}
 use Rattle.protocol.specs.declared.Decision.the-variants.{Grant, Refuse}
 use Rattle.protocol.specs.declared.ScopeAsked.{ScopeAsked}
 use Rattle.protocol.specs.declared.ScopeAsked.the-variants.{Everything, Only, Unreadable}
+use Rattle.protocol.specs.declared.Request.{Request}
 use Rattle.protocol.specs.declared.Request.the-variants.{Refused}
 use Rattle.protocol.specs.declared.Reading.{Reading}
 
@@ -41,14 +42,23 @@ scopeGiven Everything granted = granted
 scopeGiven (Only s) granted = s
 scopeGiven Unreadable granted = granted
 
+-- ---- farms
+
+-- "Such tokens carry farm 0": the farm of a client's token for itself, which no owner may allow
+abbrev pub noFarm : ℕ
+noFarm = 0
+
 -- ---- readings
 
 -- a text that is no handle: what a call presents that presents none
 abbrev pub noHandle : HandleText
 noHandle = record { valid = false; bytes = replicate handleSize 0 }
 
+abbrev pub presentingNone : Request → Reading
+presentingNone request = record { request = request; presented = noHandle }
+
 abbrev pub refusedReading : Refusal → Reading
-refusedReading refusal = record { request = Refused refusal; presented = noHandle }
+refusedReading refusal = presentingNone (Refused refusal)
 
 -- what is read, unless a reason to refuse it came first
 unfoldable pub unlessRefused : Decision → Reading → Reading

@@ -19,6 +19,7 @@ pub enum ErrorWord {
     AccessDenied,
     TemporarilyUnavailable,
     ServerError,
+    UnauthorizedClient,
 }
 
 // What a call is handed and may be unfit. A call with such an input changes nothing at all.
@@ -80,12 +81,22 @@ pub struct RefreshRequest {
     pub scope: ScopeAsked,
 }
 
+// The farm of a token that a client has for itself: no owner allowed it, and none may.
+pub const NO_FARM: u32 = 0;
+
+// An access token for the client itself, on its credentials alone.
+pub struct CredentialsRequest {
+    pub client: u8,
+    pub scope: u8,
+}
+
 // What is asked, or the refusal that came before the store was looked at.
 pub enum Request {
     Refused(Refusal),
     Code(CodeRequest),
     Exchange(ExchangeRequest),
     Refresh(RefreshRequest),
+    Credentials(CredentialsRequest),
 }
 
 // A call as it was read: its request, and the code or refresh token that it presents. A request that presents none has

@@ -15,7 +15,7 @@ use Rattle.token_store.specs.Store.{Store}
 use Rattle.protocol.specs.declared.Decision.{Decision}
 use Rattle.protocol.specs.declared.Decision.the-variants.{Grant, Refuse}
 use Rattle.protocol.specs.declared.Request.{Request}
-use Rattle.protocol.specs.declared.Request.the-variants.{Refused, Code, Exchange, Refresh}
+use Rattle.protocol.specs.declared.Request.the-variants.{Refused, Code, Exchange, Refresh, Credentials}
 use Rattle.protocol.specs.declared.Reading.{Reading}
 use Rattle.protocol.specs.Limits.{tokenRandom}
 use Rattle.protocol.specs.Answers.{statusOf}
@@ -40,6 +40,7 @@ request-random (Refused refusal) = omega arith
 request-random (Code r) = omega arith
 request-random (Exchange r) = omega arith
 request-random (Refresh r) = omega arith
+request-random (Credentials r) = omega arith
 
 -- the steps of a call that is served: it is read, granted on the store, and replied to
 module _ (header body : List ℕ) (clients : List Client) (t : ℕ) (random : List ℕ) (before : Store) where

@@ -1,6 +1,6 @@
 -- Laws of a token request: protocol's `readToken` in the steps in which the code takes it.
 --
--- In order: the known names; a call, by who it comes from; a client's refresh and exchange; its request, by its grant.
+-- In order: the known names; a call, by who it comes from; a client's refresh, its exchange, its request for itself; its request, by its grant.
 --
 -- Not here: who a call comes from (`client_forms`).
 -- Assumes nothing.
@@ -21,14 +21,15 @@ use Rattle.client_registry.specs.Registry.{Client as RegisteredClient, clientsO
 use Rattle.client_registry.specs.Lookup.{clientAt}
 use Rattle.client_registry.specs.declared.Entry.{Entry}
 use Rattle.protocol.specs.declared.ErrorWord.{ErrorWord}
-use Rattle.protocol.specs.declared.ErrorWord.the-variants.{InvalidRequest, UnsupportedGrantType}
+use Rattle.protocol.specs.declared.ErrorWord.the-variants.{InvalidRequest, InvalidScope, UnsupportedGrantType, UnauthorizedClient}
 use Rattle.protocol.specs.declared.Refusal.the-variants.{Token}
-use Rattle.protocol.specs.declared.Request.the-variants.{Exchange, Refresh}
+use Rattle.protocol.specs.declared.Request.the-variants.{Exchange, Refresh, Credentials}
 use Rattle.protocol.specs.declared.ScopeAsked.{ScopeAsked}
 use Rattle.protocol.specs.Refusals.{firstOf}
-use Rattle.protocol.specs.Requests.{scopeAsked, refusedReading, unlessRefused}
+use Rattle.protocol.specs.Requests.{scopeAsked, fits, scopeGiven, presentingNone, refusedReading, unlessRefused}
+use Rattle.protocol.specs.Authorization.{isInvalidScope}
 use Rattle.protocol.specs.ClientForms.{formReasons}
-use Rattle.protocol.specs.Token.{tokenNames, readExchange, readRefresh, readGrant, readToken}
+use Rattle.protocol.specs.Token.{tokenNames, readExchange, readRefresh, readCredentials, readGrant, readToken}
 use Rattle.client_forms.specs.declared.Caller.the-variants.{Client, Refused}
 use Rattle.client_forms.specs.declared.ClientForm.{ClientForm}
 use Rattle.client_forms.specs.Forms.{ClientNames, decisionOn, LetIn, Reads}
@@ -93,6 +94,26 @@ module _ {body : List ℕ} {places : List Place} (s : Stands tokenNames body pla
     unfolding readExchange unlessRefused firstOf
     code-there e p ep again ea = rw (ep, ea, s .at 4 (lit< tt) .value, s .at 3 (lit< tt) .value, rw (s .at 3 (lit< tt) .value) at e)
 
+    -- ---- for itself
+
+    abbrev client : RegisteredClient
+    client = clientAt clients number
+
+    pub public-client : client .confidential ≡ false → refusedReading (Token UnauthorizedClient) ≡ readCredentials clients number body
+    unfolding readCredentials unlessRefused firstOf
+    public-client e = rw e
+
+    -- the scope asked and the client's set, as they were read
+    module _ (e : client .confidential ≡ true) (asked : ScopeAsked) (ea : asked ≡ scopeAsked (said 6)) (held : ℕ) (eh : held ≡ client .scope) where
+      pub scope-beyond : fits asked held ≡ false → refusedReading (Token InvalidScope) ≡ readCredentials clients number body
+      unfolding readCredentials unlessRefused firstOf isInvalidScope
+      scope-beyond n = rw (e, rw (ea, eh, s .at 6 (lit< tt) .value) at n)
+
+      pub scope-within : fits asked held ≡ true → (scope : ℕ) → scope ≡ scopeGiven asked held
+          → presentingNone (Credentials (record { client = number; scope = scope })) ≡ readCredentials clients number body
+      unfolding readCredentials unlessRefused firstOf isInvalidScope
+      scope-within y scope es = rw (e, rw (ea, eh, s .at 6 (lit< tt) .value) at y, es, ea, eh, s .at 6 (lit< tt) .value)
+
     -- ---- the grants
 
     pub grant-code : isOnce (bytes "authorization_code") (said 2) ≡ true → readExchange clients number body ≡ readGrant clients number body
@@ -104,6 +125,13 @@ module _ {body : List ℕ} {places : List Place} (s : Stands tokenNames body pla
       unfolding readGrant
       grant-token e = rw (rw (s .at 2 (lit< tt) .value) at other, rw (s .at 2 (lit< tt) .value) at e)
 
-      pub grant-other : isOnce (bytes "refresh_token") (said 2) ≡ false → refusedReading (Token UnsupportedGrantType) ≡ readGrant clients number body
-      unfolding readGrant
-      grant-other e = rw (rw (s .at 2 (lit< tt) .value) at other, rw (s .at 2 (lit< tt) .value) at e)
+      module _ (neither : isOnce (bytes "refresh_token") (said 2) ≡ false) where
+        pub grant-credentials : isOnce (bytes "client_credentials") (said 2) ≡ true → readCredentials clients number body ≡ readGrant clients number body
+        unfolding readGrant
+        grant-credentials e =
+            rw (rw (s .at 2 (lit< tt) .value) at other, rw (s .at 2 (lit< tt) .value) at neither, rw (s .at 2 (lit< tt) .value) at e)
+
+        pub grant-other : isOnce (bytes "client_credentials") (said 2) ≡ false → refusedReading (Token UnsupportedGrantType) ≡ readGrant clients number body
+        unfolding readGrant
+        grant-other e =
+            rw (rw (s .at 2 (lit< tt) .value) at other, rw (s .at 2 (lit< tt) .value) at neither, rw (s .at 2 (lit< tt) .value) at e)

@@ -1,5 +1,5 @@
 // token_request: what a call to the token endpoint asks for, read from its arguments and the registry alone
-// (RFC 6749, sections 4.1.3 and 6).
+// (RFC 6749, sections 4.1.3, 4.4.2 and 6).
 use client_forms::Caller;
 use client_forms::NEEDED;
 use client_registry::Entry;
@@ -7,6 +7,7 @@ use encoding::HANDLE_SIZE;
 use encoding::HandleText;
 use form::PLACES;
 use form::Place;
+use protocol::CredentialsRequest;
 use protocol::ErrorWord;
 use protocol::ExchangeRequest;
 use protocol::Reading;
@@ -20,8 +21,8 @@ ghost use lib.ListN.{length};
 ghost use Rattle.form.specs.Places.{Stands};
 ghost use Rattle.client_registry.specs.Registry.{clientsOf, fitRegistry};
 ghost use Rattle.protocol.specs.Limits.{mostForm};
-ghost use Rattle.protocol.specs.Requests.{refusedReading};
-ghost use Rattle.protocol.specs.Token.{tokenNames, readExchange, readRefresh, readGrant, readToken};
+ghost use Rattle.protocol.specs.Requests.{presentingNone, refusedReading};
+ghost use Rattle.protocol.specs.Token.{tokenNames, readExchange, readRefresh, readCredentials, readGrant, readToken};
 ghost use Rattle.client_forms.specs.Forms.{LetIn};
 
 // The places of the names, in the order in which `read` lists them. The one that must be there is the grant type.
@@ -35,16 +36,23 @@ const REFRESH_TOKEN: usize = 5;
 
 const SCOPE: usize = 6;
 
-fn refuse(word: ErrorWord) -> Reading
-    ensures { λ r. ⌜ r ≡ refusedReading (Refusal.Token word) ⌝ }
+// A request that presents no code or token.
+fn presenting_none(request: Request) -> Reading
+    ensures { λ r. ⌜ r ≡ presentingNone request ⌝ }
 {
     Reading {
-        request: Request::Refused(Refusal::Token(word)),
+        request,
         presented: HandleText {
             valid: false,
             bytes: [0u8; HANDLE_SIZE],
         },
     }
+}
+
+fn refuse(word: ErrorWord) -> Reading
+    ensures { λ r. ⌜ r ≡ refusedReading (Refusal.Token word) ⌝ }
+{
+    presenting_none(Request::Refused(Refusal::Token(word)))
 }
 
 // A request to exchange a code. Its scope is not looked at.
@@ -89,6 +97,26 @@ fn read_refresh(body: &[u8], places: [Place; PLACES], client: Entry) -> Reading
     }
 }
 
+// A request for an access token for the client itself: a confidential one, and a scope within its set.
+fn read_credentials(registry: &[u8], body: &[u8], places: [Place; PLACES], client: Entry) -> Reading
+    requires { ⌜ LetIn tokenNames (now registry) (now body) places client ⌝ }
+    ensures { λ r. ⌜ r ≡ readCredentials (clientsOf (now (registry .entry))) (client .number) (now (body .entry)) ⌝ }
+{
+    if !client_registry::is_confidential(registry, client) {
+        return refuse(ErrorWord::UnauthorizedClient);
+    }
+    let scope = places[SCOPE];
+    let asked = parameters::scope_asked(body, scope);
+    let held = client_registry::scope_set(registry, client);
+    if !parameters::scope_fits(asked, held) {
+        return refuse(ErrorWord::InvalidScope);
+    }
+    presenting_none(Request::Credentials(CredentialsRequest {
+        client: client.number,
+        scope: parameters::scope_given(asked, held),
+    }))
+}
+
 // The request of an authenticated client, by its grant type.
 fn read_grant(registry: &[u8], body: &[u8], places: [Place; PLACES], client: Entry) -> Reading
     requires { ⌜ LetIn tokenNames (now registry) (now body) places client ⌝ }
@@ -100,6 +128,9 @@ fn read_grant(registry: &[u8], body: &[u8], places: [Place; PLACES], client: Ent
     }
     if form::is_once(body, grant, b"refresh_token") {
         return read_refresh(body, places, client);
+    }
+    if form::is_once(body, grant, b"client_credentials") {
+        return read_credentials(registry, body, places, client);
     }
     refuse(ErrorWord::UnsupportedGrantType)
 }

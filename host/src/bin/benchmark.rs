@@ -177,6 +177,7 @@ fn token_case(name: &'static str, clients: &[Client], live: usize) -> Case {
     let presented = sample::hex(&handle(PRESENTED));
     let (kind, body) = match name {
         "exchange" => (sample::CODE, format!("grant_type=authorization_code&code={presented}")),
+        "client credentials" => (sample::ACCESS, "grant_type=client_credentials&scope=power".into()),
         _ => (sample::REFRESH, format!("grant_type=refresh_token&refresh_token={presented}&scope=power")),
     };
     let store = issuing_store(clients.len(), live, kind);
@@ -193,28 +194,8 @@ fn main() {
     println!("Time for one call in microseconds: ours (the exports), plain (the second program), and ours / plain.");
     println!();
     println!("512 slots in use, 64 confidential clients:");
-    for full in [false, true] {
-        let clients = clients(64, full);
-        let live = sample::SLOTS;
-        let cases = [
-            check_case("check, token in the last slot", &clients, live, live - 1),
-            check_case("check, token nowhere", &clients, live, live),
-            authorize_case(&clients, live),
-            token_case("exchange", &clients, live),
-            token_case("refresh", &clients, live),
-        ];
-        println!();
-        println!(
-            "{:<32}{:>8}{:>8}{:>8}",
-            if full { "fields as long as may be" } else { "short fields" },
-            "ours",
-            "plain",
-            "ratio"
-        );
-        for (case, (ours, plain)) in cases.iter().zip(measure(&cases)) {
-            println!("{:<32}{:>8.2}{:>8.2}{:>8.2}", case.name, ours / 1e3, plain / 1e3, ours / plain);
-        }
-    }
+    full_store("short fields", &clients(64, false));
+    full_store("fields as long as may be", &clients(64, true));
     growth("check, token nowhere", |clients, live| check_case("check, token nowhere", clients, live, sample::SLOTS));
     growth("exchange", |clients, live| token_case("exchange", clients, live));
     println!();
@@ -225,6 +206,24 @@ fn main() {
     println!("All slots are live but the ones that a call takes, which have run out and are put back after each call");
     println!("(70 bytes, for both programs). The presented slot and the one taken are the last two, the client the last one.");
     println!("Both programs are optimised for plain x86-64.");
+}
+
+/// Every kind of call, with all slots in use.
+fn full_store(title: &str, clients: &[Client]) {
+    let live = sample::SLOTS;
+    let cases = [
+        check_case("check, token in the last slot", clients, live, live - 1),
+        check_case("check, token nowhere", clients, live, live),
+        authorize_case(clients, live),
+        token_case("exchange", clients, live),
+        token_case("refresh", clients, live),
+        token_case("client credentials", clients, live),
+    ];
+    println!();
+    println!("{title:<32}{:>8}{:>8}{:>8}", "ours", "plain", "ratio");
+    for (case, (ours, plain)) in cases.iter().zip(measure(&cases)) {
+        println!("{:<32}{:>8.2}{:>8.2}{:>8.2}", case.name, ours / 1e3, plain / 1e3, ours / plain);
+    }
 }
 
 /// How the time grows with slots in use and with clients.

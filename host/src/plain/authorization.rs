@@ -4,7 +4,7 @@ use super::form::{self, Field, Form};
 use super::handle::{self, Handle};
 use super::registry::{Client, Registry};
 use super::scope::ScopeSet;
-use super::store::{Grant, Kind, Store};
+use super::store::{Grant, Kind, Store, NO_FARM};
 use super::{admit, write, Unfit, FORM_LIMIT, LEAST_OUTPUT};
 use crate::answers::{Authorization, ErrorWord};
 
@@ -95,7 +95,8 @@ impl Request {
         handle: &Handle,
     ) -> Result<Handle, ErrorWord> {
         let scope = self.scope?;
-        if decision != ALLOW {
+        // Farm 0 has no owner who could allow anything.
+        if decision != ALLOW || farm == NO_FARM {
             return Err(ErrorWord::AccessDenied);
         }
         if store.room(now) == 0 {
@@ -142,10 +143,7 @@ fn asked_scope(form: &Form, client: &Client) -> Result<ScopeSet, ErrorWord> {
     if response_type != b"code" {
         return Err(ErrorWord::UnsupportedResponseType);
     }
-    let Some(value) = scope else {
-        return Ok(client.scope);
-    };
-    ScopeSet::parse(value).filter(|set| set.is_within(client.scope)).ok_or(ErrorWord::InvalidScope)
+    ScopeSet::asked(scope, client.scope).ok_or(ErrorWord::InvalidScope)
 }
 
 fn is_sound_state(state: &[u8]) -> bool {

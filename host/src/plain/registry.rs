@@ -55,6 +55,10 @@ impl<'a> Registry<'a> {
 }
 
 impl<'a> Client<'a> {
+    pub fn is_public(&self) -> bool {
+        self.secret.is_none()
+    }
+
     /// The first record of the bytes, and what follows it.
     fn parse(bytes: &'a [u8]) -> Option<(Client<'a>, &'a [u8])> {
         let (&kind, rest) = bytes.split_first()?;

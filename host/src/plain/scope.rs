@@ -16,6 +16,14 @@ impl ScopeSet {
         Some(ScopeSet(set))
     }
 
+    /// What a request asks for of the most that it may get: all of it when it names no scope.
+    pub fn asked(value: Option<&[u8]>, most: ScopeSet) -> Option<ScopeSet> {
+        match value {
+            None => Some(most),
+            Some(value) => ScopeSet::parse(value).filter(|set| set.is_within(most)),
+        }
+    }
+
     pub fn is_within(self, other: ScopeSet) -> bool {
         self.0 & !other.0 == 0
     }
@@ -44,6 +52,17 @@ mod tests {
             ["", " ", "power  bill", " power", "power ", "powe", "powers", "Power", "power\tbill", "power,bill"]
         {
             assert_eq!(ScopeSet::parse(value.as_bytes()), None, "{value:?}");
+        }
+    }
+
+    #[test]
+    fn nothing_beyond_the_most_is_asked() {
+        let asked = |value: &str| ScopeSet::asked(Some(value.as_bytes()), ScopeSet(9));
+        assert_eq!(ScopeSet::asked(None, ScopeSet(9)), Some(ScopeSet(9)));
+        assert_eq!(asked("bill power"), Some(ScopeSet(9)));
+        assert_eq!(asked("bill"), Some(ScopeSet(8)));
+        for value in ["power peak bill", "peak", "", "power  bill", "weather"] {
+            assert_eq!(asked(value), None, "{value:?}");
         }
     }
 

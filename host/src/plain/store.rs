@@ -40,6 +40,9 @@ impl Kind {
     }
 }
 
+/// The farm of what a client is granted for itself: there is no owner to ask.
+pub const NO_FARM: u32 = 0;
+
 /// What an issue grants: the client, the farm whose owner allowed it, and the scope.
 #[derive(Clone, Copy, Debug, PartialEq, Eq)]
 pub struct Grant {

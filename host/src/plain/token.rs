@@ -1,11 +1,11 @@
-//! The token endpoint (RFC 6749 sections 2.3.1, 3.2, 4.1.3 to 5.2 and 6).
+//! The token endpoint (RFC 6749 sections 2.3.1, 3.2, 4.1.3, 4.1.4, 4.4, 5 and 6).
 
 use super::base64;
 use super::form::{Field, Form};
 use super::handle::{self, Handle, HANDLE_SIZE};
 use super::registry::Registry;
 use super::scope::ScopeSet;
-use super::store::{Entry, Grant, Kind};
+use super::store::{Entry, Grant, Kind, NO_FARM};
 use super::{admit, write, Admitted, Unfit, FORM_LIMIT, LEAST_OUTPUT};
 use crate::answers::{ErrorWord, TokenReply};
 
@@ -20,11 +20,12 @@ pub struct Request {
     pub asked: Asked,
 }
 
-/// What is presented, as the form has it.
+/// What is presented and asked for, as the form has it.
 #[derive(Clone, Debug, PartialEq, Eq)]
 pub enum Asked {
     Exchange { code: Vec<u8>, redirect: Option<Vec<u8>> },
     Refresh { token: Vec<u8>, scope: Option<Vec<u8>> },
+    ClientCredentials { scope: Option<Vec<u8>> },
 }
 
 /// Why a request gets no token.
@@ -91,7 +92,7 @@ fn error_reply(word: ErrorWord, header_came: bool, output: &mut [u8]) -> TokenRe
 }
 
 impl Request {
-    /// Reads and authenticates. Every refusal that the papers list before `invalid_grant` is an error here.
+    /// Reads and authenticates. Every refusal up to a missing code or refresh token is an error here.
     pub fn read(header: &[u8], body: &[u8], registry: &Registry) -> Result<Request, ErrorWord> {
         if body.len() > FORM_LIMIT {
             return Err(ErrorWord::InvalidRequest);
@@ -112,6 +113,7 @@ impl Request {
         let asked = match grant_type {
             b"authorization_code" => Asked::Exchange { code: required("code")?, redirect: optional("redirect_uri") },
             b"refresh_token" => Asked::Refresh { token: required("refresh_token")?, scope: optional("scope") },
+            b"client_credentials" => Asked::ClientCredentials { scope: optional("scope") },
             _ => return Err(ErrorWord::UnsupportedGrantType),
         };
         Ok(Request { client, asked })
@@ -122,6 +124,7 @@ impl Request {
         match &self.asked {
             Asked::Exchange { code, redirect } => self.exchange(code, redirect.as_deref(), admitted, handles),
             Asked::Refresh { token, scope } => self.refresh(token, scope.as_deref(), admitted, &handles[0]),
+            Asked::ClientCredentials { scope } => self.client_credentials(scope.as_deref(), admitted, &handles[0]),
         }
     }
 
@@ -160,21 +163,23 @@ impl Request {
         access: &Handle,
     ) -> Result<String, Denial> {
         let (_, entry) = self.find(&[Kind::Refresh], token, admitted)?;
-        let scope = match scope {
-            None => entry.grant.scope,
-            Some(value) => {
-                ScopeSet::parse(value).filter(|set| set.is_within(entry.grant.scope)).ok_or(ErrorWord::InvalidScope)?
-            }
-        };
-        let Admitted { store, now, .. } = admitted;
-        if store.room(*now) < 1 {
-            return Err(Denial::NoRoom);
+        let scope = ScopeSet::asked(scope, entry.grant.scope).ok_or(ErrorWord::InvalidScope)?;
+        issue_access(&Grant { scope, ..entry.grant }, admitted, access)
+    }
+
+    /// The client asks for itself; its secret is all that speaks for it, so it must have one.
+    fn client_credentials(
+        &self,
+        scope: Option<&[u8]>,
+        admitted: &mut Admitted,
+        access: &Handle,
+    ) -> Result<String, Denial> {
+        let client = admitted.registry.client(self.client);
+        if client.is_public() {
+            return Err(ErrorWord::UnauthorizedClient.into());
         }
-        if store.has_handle(access) {
-            return Err(Denial::Clash);
-        }
-        store.issue(Kind::Access, access, &Grant { scope, ..entry.grant }, *now);
-        Ok(reply(access, None, scope))
+        let scope = ScopeSet::asked(scope, client.scope).ok_or(ErrorWord::InvalidScope)?;
+        issue_access(&Grant { client: self.client, farm: NO_FARM, scope }, admitted, access)
     }
 
     /// The live slot of this client that the presented text names.
@@ -186,6 +191,19 @@ impl Request {
         }
         Ok((number, entry))
     }
+}
+
+/// Issues an access token without a refresh token, and gives the reply.
+fn issue_access(grant: &Grant, admitted: &mut Admitted, access: &Handle) -> Result<String, Denial> {
+    let Admitted { store, now, .. } = admitted;
+    if store.room(*now) == 0 {
+        return Err(Denial::NoRoom);
+    }
+    if store.has_handle(access) {
+        return Err(Denial::Clash);
+    }
+    store.issue(Kind::Access, access, grant, *now);
+    Ok(reply(access, None, grant.scope))
 }
 
 /// The client whose id and secret are presented, in the header or in the body.

@@ -1,12 +1,12 @@
 //! Demand 3, run as a program over calls and answers alone.
 //!
 //! The judge keeps what the calls so far contain: which codes and tokens were issued, to whom, for how long, and which
-//! codes were exchanged. It never looks at the store. From that it says of every exchange, refresh and check whether it
-//! must succeed, and the exports' answers must be exactly so.
+//! codes were exchanged. It never looks at the store. From that it says of every exchange, refresh, request by client
+//! credentials and check whether it must succeed, and the exports' answers must be exactly so.
 
 use std::collections::HashSet;
 
-use poplarchime_host::plain::registry::Registry;
+use poplarchime_host::plain::registry::{Client, Registry};
 use poplarchime_host::plain::scope::NAMES;
 use poplarchime_host::plain::token::Asked;
 use poplarchime_host::plain::{authorization, token};
@@ -20,6 +20,8 @@ use crate::support::tally::Tally;
 use crate::support::world::{random_clients, Start, World};
 
 const ROOM: usize = 512;
+/// The farm of a token that a client has for itself.
+const NO_FARM: u32 = 0;
 
 #[derive(Clone, Copy, Debug, PartialEq, Eq)]
 enum What {
@@ -110,6 +112,9 @@ impl Judge {
                 Ok(token::Request { client, asked: Asked::Refresh { token, scope } }) => {
                     self.judge_refresh(client, &token, scope.as_deref(), self.now(call))
                 }
+                Ok(token::Request { client, asked: Asked::ClientCredentials { scope } }) => {
+                    self.judge_client_credentials(registry.client(client), scope.as_deref(), self.now(call))
+                }
             },
         }
     }
@@ -138,6 +143,14 @@ impl Judge {
         ])
     }
 
+    fn judge_client_credentials(&self, client: &Client, scope: Option<&[u8]>, now: u64) -> Verdict {
+        verdict(&[
+            ("a public client", client.secret.is_some()),
+            ("scope not within", is_within(scope, client.scope.0)),
+            ("no room", self.standing(now, None) < ROOM),
+        ])
+    }
+
     /// The issue of a code or token. Under the premise no two have the same text.
     fn issued(&self, text: &[u8]) -> Option<&Issue> {
         self.issues.iter().find(|issue| issue.text.as_bytes() == text)
@@ -159,23 +172,24 @@ impl Judge {
         let registry = Registry::parse(&call.registry).expect("a call past refusal 2");
         match &call.request {
             Request::Authorize { query, farm, .. } if after.answer.issued() => {
+                assert_ne!(*farm, NO_FARM, "no owner can allow it\n{call}");
                 let asked = authorization::Request::read(query, &registry).expect("it was granted");
                 let scope = asked.scope.expect("it was granted").0;
                 let text = behind(&after.text(), "code=", "&").expect("a code in the location");
                 self.issue(What::Code { bound: asked.bound }, text, asked.client, *farm, scope);
             }
             Request::Token { header, body } if after.answer.issued() => {
-                let asked = token::Request::read(header, body, &registry).expect("it was granted").asked;
-                self.record_tokens(&asked, &after.text());
+                let request = token::Request::read(header, body, &registry).expect("it was granted");
+                self.record_tokens(&request, &registry, &after.text());
             }
             _ => {}
         }
     }
 
-    fn record_tokens(&mut self, asked: &Asked, reply: &str) {
+    fn record_tokens(&mut self, request: &token::Request, registry: &Registry, reply: &str) {
         let access = behind(reply, "\"access_token\":\"", "\"").expect("an access token in the reply");
         let refresh = behind(reply, "\"refresh_token\":\"", "\"");
-        match asked {
+        match &request.asked {
             Asked::Exchange { code, .. } => {
                 let issued = self.issues.iter_mut().find(|issue| issue.text.as_bytes() == code).expect("judged before");
                 issued.exchanged = true;
@@ -190,6 +204,11 @@ impl Judge {
                 let (client, farm) = (issued.client, issued.farm);
                 let scope = scope.as_deref().map_or(issued.scope, set_of);
                 self.issue(What::Access, access, client, farm, scope);
+            }
+            Asked::ClientCredentials { scope } => {
+                assert_eq!(refresh, None, "client credentials get one token");
+                let scope = scope.as_deref().map_or(registry.client(request.client).scope.0, set_of);
+                self.issue(What::Access, access, request.client, NO_FARM, scope);
             }
         }
     }
@@ -252,7 +271,7 @@ fn behind(text: &str, before: &str, end: &str) -> Option<String> {
 // ---- long sequences
 
 const SEQUENCES: u64 = 16;
-const CALLS: usize = 4_000;
+const CALLS: usize = 4_800;
 /// Where time begins: at zero, about now, and a little before the highest clock.
 const FIRST_CLOCKS: [u64; 3] = [0, 1_800_000_000, (1 << 40) - 4_000_000];
 
@@ -270,13 +289,18 @@ fn expected_verdicts() -> Vec<String> {
         "refresh: run out",
         "refresh: scope not within",
         "refresh: no room",
+        "client credentials: a public client",
+        "client credentials: scope not within",
+        "client credentials: no room",
         "check: not issued as an access token",
         "check: run out",
     ];
     let others = [
         "exchange: yields",
         "refresh: yields",
+        "client credentials: yields",
         "check: yields",
+        "check: yields, a client's own token",
         "token: not admitted",
         "authorize: code",
         "authorize: no code",
@@ -363,6 +387,9 @@ fn label(action: &str, verdict: &Verdict, answer: &Answer) -> String {
         Verdict::Unjudged if answer.issued() => "authorize: code".into(),
         Verdict::Unjudged => "authorize: no code".into(),
         Verdict::NotAdmitted => "token: not admitted".into(),
+        Verdict::Yields if matches!(answer, Answer::Check(answer) if answer.farm == NO_FARM) => {
+            "check: yields, a client's own token".into()
+        }
         Verdict::Yields => format!("{action}: yields"),
         Verdict::Refused(why) => match why[..] {
             [alone] => format!("{action}: {alone}"),

@@ -29,6 +29,7 @@ fn draft_of(action: Action, clients: &Arc<[Client]>) -> Draft {
             Draft::token(action, clients, &store(), NOW, 0, random)
         }
         Action::Refresh => Draft::token(action, clients, &store(), NOW, 2, RANDOM),
+        Action::ClientCredentials => Draft::client_credentials(clients, &store(), NOW, 0, RANDOM),
         Action::Check => Draft::check(clients, &store(), NOW, 1),
     }
 }
@@ -37,52 +38,42 @@ fn draft(action: Action) -> Draft {
     draft_of(action, &sample::visit_clients().into())
 }
 
-fn granted(action: Action) -> &'static str {
-    match action {
-        Action::Authorize => "code",
-        Action::Exchange | Action::Refresh => "200",
-        Action::Check => "live",
-    }
-}
-
 #[track_caller]
 fn expect(draft: &Draft, outcome: &str) {
     assert_eq!(run_both(&draft.call(), &draft.store).answer.outcome(), outcome, "{}", draft.call());
 }
 
-const ISSUING: [Action; 3] = [Action::Authorize, Action::Exchange, Action::Refresh];
-
 #[test]
 fn random_bytes() {
-    for action in ISSUING {
+    for action in Action::ISSUING {
         let right = if action == Action::Authorize { 20 } else { 40 };
         for length in 0..=100 {
             let mut draft = draft(action);
             draft.random = (0..length).collect();
-            expect(&draft, if length == right { granted(action) } else { "refusal 1" });
+            expect(&draft, if length == right { action.granted() } else { "refusal 1" });
         }
     }
 }
 
 #[test]
 fn output() {
-    for action in ISSUING {
+    for action in Action::ISSUING {
         for length in (0..40).chain(1000..1050) {
             let mut draft = draft(action);
             draft.output = length;
-            expect(&draft, if length >= 1024 { granted(action) } else { "refusal 1" });
+            expect(&draft, if length >= 1024 { action.granted() } else { "refusal 1" });
         }
     }
 }
 
 #[test]
 fn queries_and_bodies() {
-    for action in ISSUING {
+    for action in Action::ISSUING {
         for length in 4080..4120 {
             let mut draft = draft(action);
             draft.padded_to = length;
             let over = if action == Action::Authorize { "refusal 5" } else { "400 invalid_request" };
-            expect(&draft, if length <= 4096 { granted(action) } else { over });
+            expect(&draft, if length <= 4096 { action.granted() } else { over });
         }
     }
 }
@@ -90,7 +81,7 @@ fn queries_and_bodies() {
 #[test]
 fn headers() {
     // No header of 512 bytes or around admits anyone; the longest that does has 138.
-    for action in [Action::Exchange, Action::Refresh] {
+    for action in Action::GRANTS {
         for length in (0..20).chain(500..530) {
             let mut draft = draft(action);
             draft.authenticate_by_header(sample::basic_header(b"s6BhdRkqt3", &[b'x'; 400]));
@@ -145,7 +136,7 @@ fn handles() {
             expect(
                 &draft,
                 match length {
-                    40 => granted(action),
+                    40 => action.granted(),
                     0 => missing,
                     _ => outcome,
                 },
@@ -160,7 +151,7 @@ fn stores() {
         for length in (0..50).chain(sample::STORE_SIZE - 50..sample::STORE_SIZE + 50) {
             let mut draft = draft(action);
             draft.store.resize(length, 0);
-            expect(&draft, if length == sample::STORE_SIZE { granted(action) } else { "refusal 3" });
+            expect(&draft, if length == sample::STORE_SIZE { action.granted() } else { "refusal 3" });
         }
     }
 }
@@ -173,7 +164,7 @@ fn registries_cut_anywhere() {
             draft.registry.resize(length, 0);
             // One record, or both.
             let fit = length == 301 || length == 537;
-            expect(&draft, if fit { granted(action) } else { "refusal 2" });
+            expect(&draft, if fit { action.granted() } else { "refusal 2" });
         }
     }
 }

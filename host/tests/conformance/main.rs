@@ -2,6 +2,7 @@
 
 mod support;
 
+mod client_credentials;
 mod header;
 mod history;
 mod lengths;

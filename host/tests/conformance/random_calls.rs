@@ -13,7 +13,7 @@ use crate::support::rng::Rng;
 use crate::support::tally::Tally;
 use crate::support::world::{random_clients, Start, World};
 
-const SEQUENCES: usize = 4_400;
+const SEQUENCES: usize = 5_280;
 const CALLS: usize = 110;
 /// Each outcome and each reason must come up at least so often in all.
 const LEAST: usize = 25;
@@ -58,7 +58,7 @@ fn both_programs_agree_on_random_calls() {
     counts.outcomes.require("outcomes of random calls", &outcomes, LEAST);
     counts.reasons.require("what was done to random calls", &World::reasons(), LEAST);
     assert_eq!(counts.outcomes.total(), SEQUENCES * CALLS);
-    assert!(counts.carried >= 300_000, "too few calls carried the store along");
+    assert!(counts.carried >= 360_000, "too few calls carried the store along");
     assert!(counts.granted * 2 > counts.sound, "too few sound requests were granted");
 }
 

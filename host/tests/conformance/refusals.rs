@@ -66,6 +66,9 @@ fn sound_drafts(action: Action) -> Vec<Draft> {
             token(4, sample::CODE),
         ],
         Action::Refresh => (0..5).map(|client| token(client, sample::REFRESH)).collect(),
+        Action::ClientCredentials => {
+            [0, 2, 3, 4].map(|client| Draft::client_credentials(&clients, &store, NOW, client, random)).into()
+        }
         Action::Check => {
             (0..5).map(|client| Draft::check(&clients, &store, NOW, place(client, sample::ACCESS))).collect()
         }
@@ -153,5 +156,5 @@ fn the_first_reason_counts() {
         }
     }
     println!("{pairs} pairs of reasons");
-    assert!(pairs > 50_000, "only {pairs} pairs");
+    assert!(pairs > 250_000, "only {pairs} pairs");
 }

@@ -21,7 +21,7 @@ fn basic(client: &Client) -> Vec<u8> {
     client.secret.as_ref().map_or(Vec::new(), |secret| sample::basic_header(&client.id, secret))
 }
 
-/// Authorize, exchange, check and refresh for one client of a registry.
+/// Authorize, exchange, check, refresh and client credentials for one client of a registry.
 fn whole_visit(clients: &[Client], number: usize) {
     let client = &clients[number];
     let mut host = Host::new(clients);
@@ -44,6 +44,13 @@ fn whole_visit(clients: &[Client], number: usize) {
     };
     assert_eq!(answer, expected);
     assert_eq!(host.token(basic(client), refresh_body(&counting(0x34)) + &by_id, 1000, 0x60).status, 200);
+    let for_itself = host.token(basic(client), format!("grant_type=client_credentials{by_id}"), 1000, 0xa0);
+    match client.secret {
+        None => assert_eq!(for_itself, bad_request("unauthorized_client")),
+        Some(_) => {
+            assert_eq!(host.check(sample::hex(&counting(0xa0)), 1000), CheckAnswer { farm: 0, ..expected });
+        }
+    }
 }
 
 #[test]
@@ -273,7 +280,7 @@ fn empty_slices_are_fine() {
         random: vec![1; random],
         output: 1024,
     };
-    let query = call(Request::Authorize { query: Vec::new(), decision: 1, farm: 0 }, 20);
+    let query = call(Request::Authorize { query: Vec::new(), decision: 1, farm: 7 }, 20);
     assert_eq!(run_both(&query, &store).answer.outcome(), "refusal 6");
     let body = call(Request::Token { header: Vec::new(), body: Vec::new() }, 40);
     assert_eq!(run_both(&body, &store).answer.outcome(), "400 invalid_request");

@@ -2,7 +2,7 @@
 
 use poplarchime_host::sample::Client;
 
-use crate::support::host::{bad_request, redirected, unauthorized, Authorized, Host};
+use crate::support::host::{bad_request, granted, redirected, unauthorized, Authorized, Host};
 
 const BASIC: &str = "Basic czZCaGRSa3F0MzpnWDFmQmF0M2JW";
 const CODE: &str = "000102030405060708090a0b0c0d0e0f10111213";
@@ -63,10 +63,17 @@ fn section_4_2_implicit_grant_is_left_out() {
 }
 
 #[test]
-fn sections_4_3_and_4_4_password_and_client_credentials_are_left_out() {
-    for body in ["grant_type=password&username=johndoe&password=A3ddj3w", "grant_type=client_credentials"] {
-        assert_eq!(host().token(BASIC, body, 1000, 0), bad_request("unsupported_grant_type"));
-    }
+fn section_4_3_password_grant_is_left_out() {
+    let body = "grant_type=password&username=johndoe&password=A3ddj3w";
+    assert_eq!(host().token(BASIC, body, 1000, 0), bad_request("unsupported_grant_type"));
+}
+
+#[test]
+fn section_4_4_client_credentials_grant() {
+    let reply = "{\"access_token\":\"000102030405060708090a0b0c0d0e0f10111213\",\"token_type\":\"Bearer\",\
+         \"expires_in\":3600,\"scope\":\"power peak bill\"}";
+    assert_eq!(host().token(BASIC, "grant_type=client_credentials", 1000, 0), granted(reply));
+    assert_eq!(host().token("", "grant_type=client_credentials", 1000, 0), unauthorized(false), "must authenticate");
 }
 
 #[test]

@@ -1,10 +1,9 @@
 -- One test after the other, in the order of the reasons to refuse: the first that applies is answered.
 use borrow.Author.Needs.{needs}
-use borrow.Author.Tests.{eq-eqb, ne-eqb}
 use mathlib.Core.Path.{_≡_, sym, ap, _∙_}
 use mathlib.Core.Bool.{false, not}
 use mathlib.Core.List.{List, [], _∷_}
-use lib.Dec.{eqb, lit<}
+use lib.Dec.{lit<}
 use Prim.Native.Nat.{ℕ}
 use Rattle.octets.specs.Text.{bytes}
 use Rattle.form.specs.Content.{formValue, isMissing, isOnce}
@@ -17,7 +16,7 @@ use Rattle.protocol.specs.declared.Request.the-variants.{Code}
 use Rattle.protocol.specs.declared.ScopeAsked.{ScopeAsked}
 use Rattle.protocol.specs.Refusals.{when}
 use Rattle.protocol.specs.Requests.{scopeAsked, fits, scopeGiven}
-use Rattle.protocol.specs.Authorization.{isInvalidRequest, isOtherType, isInvalidScope, redirectReasons}
+use Rattle.protocol.specs.Authorization.{isInvalidRequest, isOtherType, isInvalidScope, isDenied, redirectReasons}
 use Rattle.protocol.proofs.Reasons.{First, none, stop, pass}
 use Rattle.authorization_query.specs.Reading.{clientNamed}
 use Rattle.authorization_query.proofs.Reasons.{asked-by, code-is}
@@ -90,18 +89,18 @@ returns-3 c =
 
 -- past the first three reasons the decision is left
 decided : (c : tie.Else3) {d : Decision}
-    → let s = asking (c .before .before .before) in First (when (not (eqb (s .args .decision) 1)) (Redirect AccessDenied) ∷ []) d
-    → First (redirectReasons (clientIn s) (queryIn s) (s .args .decision)) d
+    → let s = asking (c .before .before .before) in First (when (isDenied (s .args .decision) (s .args .farm)) (Redirect AccessDenied) ∷ []) d
+    → First (redirectReasons (clientIn s) (queryIn s) (s .args .decision) (s .args .farm)) d
 unfolding redirectReasons
 decided c f =
     let code = typed (c .before .before .before) in
     pass (valid (sound (code .before))) (pass (other (code .before) ∙ code .if2 .left) (pass (beyond (c .before) ∙ c .if3 .left) f))
 
 returns-4 : tie.Need-returns-4
-returns-4 c = asked-by _ _ _ _ (decided (c .before) (stop (ap not (ne-eqb _ 1 (c .if4 .taken)))))
+returns-4 c = let tested = c .before in asked-by _ _ _ _ (decided (tested .before) (stop (sym (tested .is-denied .ensures) ∙ c .if4 .taken)))
 
 abbrev looked : tie.After-scope-given → tie.After-scope-set
-looked c = c .before .before .before .before .before
+looked c = c .before .before .before .before .before .before
 
 given : (c : tie.After-scope-given) → let s = asking (looked c .before) in c .scope-given .result ≡ scopeGiven (scopeIn s) (clientIn s .scope)
 given c =
@@ -114,7 +113,7 @@ returns-5 c =
     let s = asking (looked (c .before) .before) in
     let bound = c .is-missing .ensures ∙ ap isMissing (s .pre .2 .stands .at 2 (lit< tt) .value) in
     ap Code (code-is (clientsOf (s .args .registry .now)) (queryIn s) (s .args .farm) (s .pre .1 .number) (given (c .before)) bound)
-    ∙ asked-by _ _ _ _ (decided (allowed .before) (pass (ap not (eq-eqb _ 1 (allowed .if4 .left))) none))
+    ∙ asked-by _ _ _ _ (decided (allowed .before .before) (pass (sym (allowed .before .is-denied .ensures) ∙ allowed .if4 .left) none))
 
 pub ask-spec : {M : Type 1} → statement M
 ask-spec =
@@ -131,6 +130,7 @@ ask-spec =
     (λ c κs. search needs)
     (λ c κs. search needs)
     returns-3
+    (λ c κs. search needs)
     returns-4
     (λ c. search needs)
     (λ c κs. search needs)

@@ -29,6 +29,9 @@ grant-exchange-requires c κs = let told = c .before .before in allowed (start (
 grant-refresh-requires : tie.Need-grant-refresh-requires
 grant-refresh-requires c κs = let told = c .before .before in allowed (start (told .before .before)) (told .request4 .given .1)
 
+grant-credentials-requires : tie.Need-grant-credentials-requires
+grant-credentials-requires c κs = let told = c .before .before in allowed (start (told .before .before)) (told .request5 .given .1)
+
 returns : tie.Need-returns
 unfolding planFor refusedPlan
 returns c = rw (c .before .before .request .given .1) (refuses (stop refl) (c .refused .ensures) refl)
@@ -45,6 +48,10 @@ returns-4 : tie.Need-returns-4
 unfolding planFor
 returns-4 c = let done = c .before .before in rw (done .before .before .before .request4 .given .1) (done .grant-refresh .ensures)
 
+returns-5 : tie.Need-returns-5
+unfolding planFor
+returns-5 c = let done = c .before .before in rw (done .before .before .before .request5 .given .1) (done .grant-credentials .ensures)
+
 pub grant-spec : {M : Type 1} → statement M
 grant-spec =
     tie.close
@@ -57,10 +64,14 @@ grant-spec =
     grant-exchange-requires
     (λ c. search needs)
     grant-refresh-requires
+    (λ c. search needs)
+    grant-credentials-requires
     returns
     (λ c. search needs)
     returns-2
     (λ c. search needs)
     returns-3
     (λ c. search needs)
-    returns-4)
+    returns-4
+    (λ c. search needs)
+    returns-5)

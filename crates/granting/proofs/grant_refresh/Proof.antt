@@ -1,17 +1,17 @@
--- The tests come in the order of the plan's reasons. Past them the access token is issued on the refresh token that was found.
+-- The tests come in the order of the plan's reasons. Past them what is left is one access token, on the refresh token that was found.
 use borrow.Author.Needs.{needs}
 use mathlib.Core.Path.{_≡_, refl, sym, ap, _∙_}
 use mathlib.Core.Bool.{not}
 use mathlib.Core.List.{List}
-use Prim.Native.Nat.{ℕ}
+use lib.ListN.{take}
 use Rattle.token_store.specs.Store.{decode}
 use Rattle.token_store.specs.declared.Slot.{Slot}
 use Rattle.token_store.specs.declared.Sought.the-variants.{Refresh}
 use Rattle.protocol.specs.Requests.{fits}
 use Rattle.protocol.specs.declared.Decision.{Decision}
-use Rattle.protocol.specs.Granting.{Plan, firstHandle, shownSlot, isTaken, refreshPlan}
-use Rattle.protocol.proofs.Reasons.{none, stop, pass}
-use Rattle.granting.proofs.Plans.{Own, own-found, own-none, Past, refuses, grants}
+use Rattle.protocol.specs.Granting.{Plan, shownSlot, refreshPlan}
+use Rattle.protocol.proofs.Reasons.{stop, pass, ends-first}
+use Rattle.granting.proofs.Plans.{Own, own-found, own-none, Past, refuses, follows-later}
 use Rattle.granting.proofs.grant_refresh.Statement.{statement}
 use Rattle.granting.proofs.grant_refresh.Tie as tie
 
@@ -60,30 +60,6 @@ past-scope : (c : tie.Else1) {d : Decision} → Past 2 (planAt (looked (found (r
 unfolding refreshPlan
 past-scope c f = past-own (found (read c)) (pass (fitting (c .before) ∙ c .if1 .left) f)
 
--- ---- there is room
-
-abbrev fitted : tie.After-has-room → tie.Else1
-fitted c = c .before .before
-
-abbrev begun : tie.After-has-room → tie.Start
-begun c = looked (found (read (fitted c)))
-
-past-room : (c : tie.Else2) {d : Decision} → Past 3 (planAt (begun (c .before))) d
-unfolding refreshPlan
-past-room c f = past-scope (fitted (c .before)) (pass (ap not (sym (c .before .has-room .ensures)) ∙ c .if2 .left) f)
-
--- ---- the handle is not in use
-
-abbrev roomy : tie.After-clashes → tie.Else2
-roomy c = c .before .before .before .before
-
-taken : (c : tie.After-clashes)
-    → let s = begun (roomy c .before) in
-    isTaken (firstHandle (s .args .random .now)) (slotsOf s) ≡ c .clashes .result
-taken c =
-    let s = begun (roomy c .before) in
-    sym (c .clashes .ensures ∙ ap (λ (h : List ℕ). isTaken h (slotsOf s)) (c .before .before .before .handle-at .ensures))
-
 -- ---- the needs
 
 returns : tie.Need-returns
@@ -103,32 +79,18 @@ returns-2 c =
     let tested = c .before .before in
     refuses (past-own (found (tested .before)) (stop (fitting tested ∙ c .before .if1 .taken))) (c .refused2 .ensures) refl
 
+grant-access-requires : tie.Need-grant-access-requires
+grant-access-requires c κs = looked (found (read (c .before .before .before .before))) .pre .0
+
 returns-3 : tie.Need-returns-3
 unfolding refreshPlan
 returns-3 c =
-    let tested = c .before .before in
-    refuses (past-scope (fitted tested) (stop (ap not (sym (tested .has-room .ensures)) ∙ c .before .if2 .taken))) (c .refused3 .ensures) refl
-
-returns-4 : tie.Need-returns-4
-unfolding refreshPlan
-returns-4 c =
-    let tested = c .before .before in
-    refuses (past-room (roomy tested) (stop (taken tested ∙ c .before .if3 .taken))) (c .refused4 .ensures) refl
-
-issue-requires : tie.Need-issue-requires
-issue-requires c κs = begun (roomy (c .before .before .before .before) .before) .pre .0
-
-returns-5 : tie.Need-returns-5
-unfolding refreshPlan
-returns-5 c =
-    let made = c .before .before .before .before in
-    let given = made .before .before in
-    let tested = given .before .before in
-    let shown = token (read (fitted (roomy tested .before))) in
-    grants (past-room (roomy tested) (pass (taken tested ∙ given .before .if3 .left) none))
-    (c .issued .ensures ∙ rw (given .scope-given .ensures, shown))
-    (c .before .before .before .issue .ensures
-    ∙ rw (made .token-on .ensures, tested .before .before .before .handle-at .ensures, given .scope-given .ensures, shown))
+    let done = c .before .before in
+    let handled = done .before .before .before in
+    let given = handled .before in
+    let asked = looked (found (read (given .before))) in
+    follows-later (take 2 (planAt asked .reasons)) (past-scope (given .before) (ends-first _))
+    (rw (done .before .token-on .ensures, handled .handle-at .ensures, given .scope-given .ensures, token (read (given .before))) at (done .grant-access .ensures))
 
 pub grant-refresh-spec : {M : Type 1} → statement M
 grant-refresh-spec =
@@ -147,17 +109,7 @@ grant-refresh-spec =
     returns-2
     (λ c κs. search needs)
     (λ c κs. search needs)
+    (λ c κs. search needs)
+    grant-access-requires
     (λ c. search needs)
-    returns-3
-    (λ c κs. search needs)
-    (λ c. search needs)
-    (λ c κs. search needs)
-    (λ c κs. search needs)
-    (λ c. search needs)
-    returns-4
-    (λ c κs. search needs)
-    (λ c κs. search needs)
-    issue-requires
-    (λ c κs. search needs)
-    (λ c. search needs)
-    returns-5)
+    returns-3)

@@ -7,35 +7,53 @@ use poplarchime_host::sample::{self, Client, Slot};
 use super::call::{Call, Request};
 use super::rng::Rng;
 
-/// What a request is about. An exchange and a refresh go to the same endpoint.
+/// What a request is about. Exchange, refresh and client credentials are the grants of the token endpoint.
 #[derive(Clone, Copy, Debug, PartialEq, Eq)]
 pub enum Action {
     Authorize,
     Exchange,
     Refresh,
+    ClientCredentials,
     Check,
 }
 
 impl Action {
-    pub const ALL: [Action; 4] = [Action::Authorize, Action::Exchange, Action::Refresh, Action::Check];
+    pub const ALL: [Action; 5] =
+        [Action::Authorize, Action::Exchange, Action::Refresh, Action::ClientCredentials, Action::Check];
+    /// The actions that issue a code or tokens.
+    pub const ISSUING: [Action; 4] = [Action::Authorize, Action::Exchange, Action::Refresh, Action::ClientCredentials];
+    /// The grants of the token endpoint.
+    pub const GRANTS: [Action; 3] = [Action::Exchange, Action::Refresh, Action::ClientCredentials];
 
     pub fn name(self) -> &'static str {
         match self {
             Action::Authorize => "authorize",
             Action::Exchange => "exchange",
             Action::Refresh => "refresh",
+            Action::ClientCredentials => "client credentials",
             Action::Check => "check",
+        }
+    }
+
+    /// Whether a request of this kind shows a code or token from the store.
+    pub fn presents(self) -> bool {
+        matches!(self, Action::Exchange | Action::Refresh | Action::Check)
+    }
+
+    /// The outcome of a request with which nothing is wrong.
+    pub fn granted(self) -> &'static str {
+        match self {
+            Action::Authorize => "code",
+            Action::Exchange | Action::Refresh | Action::ClientCredentials => "200",
+            Action::Check => "live",
         }
     }
 
     /// Every outcome that the papers have for a request of this kind.
     pub fn outcomes(self) -> Vec<String> {
-        let endings: &[&str] = match self {
+        let own: &[&str] = match self {
             Action::Authorize => &[
                 "refusal 1",
-                "refusal 2",
-                "refusal 3",
-                "refusal 4",
                 "refusal 5",
                 "refusal 6",
                 "refusal 7",
@@ -45,29 +63,27 @@ impl Action {
                 "access_denied",
                 "temporarily_unavailable",
                 "server_error",
-                "code",
             ],
-            Action::Exchange | Action::Refresh => &[
+            Action::Exchange => &["400 invalid_grant"],
+            Action::Refresh => &["400 invalid_grant", "400 invalid_scope"],
+            Action::ClientCredentials => &["400 unauthorized_client", "400 invalid_scope"],
+            Action::Check => &["not live"],
+        };
+        let of_grants: &[&str] = match Action::GRANTS.contains(&self) {
+            true => &[
                 "refusal 1",
-                "refusal 2",
-                "refusal 3",
-                "refusal 4",
                 "400 invalid_request",
                 "401 invalid_client",
                 "401 invalid_client, challenge",
                 "400 unsupported_grant_type",
-                "400 invalid_grant",
                 "503",
                 "500",
-                "200",
             ],
-            Action::Check => &["refusal 2", "refusal 3", "refusal 4", "not live", "live"],
+            false => &[],
         };
-        let mut outcomes: Vec<String> = endings.iter().map(|ending| format!("{}: {ending}", self.name())).collect();
-        if self == Action::Refresh {
-            outcomes.push("refresh: 400 invalid_scope".into());
-        }
-        outcomes
+        let of_all = ["refusal 2", "refusal 3", "refusal 4", self.granted()];
+        let endings = of_all.iter().chain(of_grants).chain(own);
+        endings.map(|ending| format!("{}: {ending}", self.name())).collect()
     }
 }
 
@@ -102,7 +118,7 @@ pub struct Draft {
     pub clients: Arc<[Client]>,
     /// Who asks.
     pub client: usize,
-    /// The slot whose handle is presented.
+    /// The slot whose handle is presented, if the action presents one.
     pub presented: usize,
     pub params: Params,
     /// A piece that is put behind the form as it stands.
@@ -188,6 +204,21 @@ impl Draft {
         draft
     }
 
+    /// A confidential client asks for itself.
+    pub fn client_credentials(
+        clients: &Arc<[Client]>,
+        store: &[u8],
+        clock: u64,
+        client: usize,
+        random: impl AsRef<[u8]>,
+    ) -> Draft {
+        let mut draft = Draft::new(Action::ClientCredentials, clients, store, clock);
+        draft.random = random.as_ref().to_vec();
+        draft.params.push("grant_type", "client_credentials");
+        draft.authenticate(client);
+        draft
+    }
+
     /// The check of the access token in a slot.
     pub fn check(clients: &Arc<[Client]>, store: &[u8], clock: u64, slot: usize) -> Draft {
         let mut draft = Draft::new(Action::Check, clients, store, clock);
@@ -199,6 +230,11 @@ impl Draft {
     /// The slot that is presented, as the draft's store has it.
     pub fn presented_slot(&self) -> Slot {
         sample::slot(&self.store, self.presented)
+    }
+
+    /// Whether it is this slot whose handle is presented.
+    pub fn presents(&self, number: usize) -> bool {
+        self.action.presents() && number == self.presented
     }
 
     pub fn edit_slot(&mut self, number: usize, edit: impl FnOnce(&mut Slot)) {
@@ -237,6 +273,20 @@ impl Draft {
         &self.clients[self.client]
     }
 
+    /// The numbers of the public clients.
+    pub fn public_clients(&self) -> Vec<usize> {
+        (0..self.clients.len()).filter(|&client| self.clients[client].secret.is_none()).collect()
+    }
+
+    /// Registers the client that asks as a public one.
+    pub fn make_public(&mut self) {
+        let mut clients = self.clients.to_vec();
+        clients[self.client].secret = None;
+        self.clients = clients.into();
+        self.registry = sample::registry(&self.clients);
+        self.authenticate(self.client);
+    }
+
     /// The call, its form written as a client library would.
     pub fn call(&self) -> Call {
         let pieces = self.params.0.iter().map(|(name, value)| [usual_writing(name), usual_writing(value)].join(&b'='));
@@ -270,7 +320,9 @@ impl Draft {
         }
         let request = match self.action {
             Action::Authorize => Request::Authorize { query: form, decision: self.decision, farm: self.farm },
-            Action::Exchange | Action::Refresh => Request::Token { header: self.header.clone(), body: form },
+            Action::Exchange | Action::Refresh | Action::ClientCredentials => {
+                Request::Token { header: self.header.clone(), body: form }
+            }
             Action::Check => Request::Check { token: self.token.clone() },
         };
         Call {

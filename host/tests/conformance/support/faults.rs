@@ -38,9 +38,10 @@ pub enum Step {
     Body,
     Authentication,
     GrantType,
+    GrantNotForClient,
     Presented,
     Grant,
-    RefreshScope,
+    TokenScope,
     TokenRoom,
     TokenClash,
     // Check.
@@ -70,21 +71,20 @@ impl Step {
             Step::Authentication if draft.header.is_empty() => "401 invalid_client",
             Step::Authentication => "401 invalid_client, challenge",
             Step::GrantType => "400 unsupported_grant_type",
+            Step::GrantNotForClient => "400 unauthorized_client",
             Step::Grant => "400 invalid_grant",
-            Step::RefreshScope => "400 invalid_scope",
+            Step::TokenScope => "400 invalid_scope",
             Step::TokenRoom => "503",
             Step::TokenClash => "500",
             Step::Token => "not live",
-            Step::Harmless => match draft.action {
-                Action::Authorize => "code",
-                Action::Exchange | Action::Refresh => "200",
-                Action::Check => "live",
-            },
+            Step::Harmless => draft.action.granted(),
         }
     }
 }
 
 type Apply = fn(&mut Draft, &mut Rng);
+/// Reasons with the same place in the order.
+type Reasons = (Step, &'static [(&'static str, Apply)]);
 
 #[derive(Clone, Copy)]
 pub struct Fault {
@@ -101,58 +101,81 @@ impl Fault {
 
 /// Every reason for refusing such a request, and ways of being odd that are no reason.
 pub fn faults(action: Action) -> Vec<Fault> {
-    let mut faults = Vec::new();
-    let mut add = |step, reasons: &[(&'static str, Apply)]| {
-        faults.extend(reasons.iter().map(|&(reason, apply)| Fault { step, reason, apply }));
+    let lists: &[&[Reasons]] = match action {
+        Action::Authorize => &[ANY, ISSUING, AUTHORIZE],
+        Action::Exchange => &[ANY, ISSUING, GRANT, PRESENTED_GRANT, EXCHANGE],
+        Action::Refresh => &[ANY, ISSUING, GRANT, PRESENTED_GRANT, SINGLE_TOKEN, REFRESH],
+        Action::ClientCredentials => &[ANY, ISSUING, GRANT, SINGLE_TOKEN, CLIENT_CREDENTIALS],
+        Action::Check => &[ANY, CHECK],
     };
-    add(Step::Registry, buffers::REGISTRY);
-    add(Step::Store, buffers::STORE);
-    add(Step::Clock, buffers::CLOCK);
-    add(Step::Harmless, buffers::HARMLESS_CLOCK);
-    match action {
-        Action::Authorize => {
-            add(Step::Buffers, buffers::BUFFERS);
-            add(Step::Query, form::FORM);
-            add(Step::Client, authorization::CLIENT);
-            add(Step::Redirect, authorization::REDIRECT);
-            add(Step::Request, authorization::REQUEST);
-            add(Step::ResponseType, authorization::RESPONSE_TYPE);
-            add(Step::Scope, scope::SCOPE);
-            add(Step::Decision, authorization::DECISION);
-            add(Step::Room, room::ROOM);
-            add(Step::Clash, room::CLASH);
-            add(Step::Harmless, form::HARMLESS_FORM);
-            add(Step::Harmless, authorization::HARMLESS_AUTHORIZATION);
-        }
-        Action::Exchange | Action::Refresh => {
-            add(Step::Buffers, buffers::BUFFERS);
-            add(Step::Body, form::FORM);
-            add(Step::Body, authentication::BODY);
-            add(Step::Authentication, authentication::AUTHENTICATION);
-            add(Step::GrantType, grant::GRANT_TYPE);
-            add(Step::Presented, grant::PRESENTED);
-            add(Step::Grant, grant::GRANT);
-            add(Step::TokenRoom, room::ROOM);
-            add(Step::TokenClash, room::CLASH);
-            add(Step::Harmless, form::HARMLESS_FORM);
-            add(Step::Harmless, authentication::HARMLESS_TOKEN);
-        }
-        Action::Check => {
-            add(Step::Token, check::TOKEN);
-            add(Step::Harmless, check::HARMLESS_CHECK);
-        }
-    }
-    match action {
-        Action::Exchange => {
-            add(Step::Grant, grant::CODE_GRANT);
-            add(Step::TokenClash, room::SECOND_CLASH);
-            add(Step::Harmless, grant::HARMLESS_EXCHANGE);
-        }
-        Action::Refresh => {
-            add(Step::RefreshScope, scope::SCOPE);
-            add(Step::Harmless, grant::HARMLESS_REFRESH);
-        }
-        Action::Authorize | Action::Check => {}
+    let mut faults = Vec::new();
+    for &(step, reasons) in lists.iter().copied().flatten() {
+        faults.extend(reasons.iter().map(|&(reason, apply)| Fault { step, reason, apply }));
     }
     faults
 }
+
+const ANY: &[Reasons] = &[
+    (Step::Registry, buffers::REGISTRY),
+    (Step::Store, buffers::STORE),
+    (Step::Clock, buffers::CLOCK),
+    (Step::Harmless, buffers::HARMLESS_CLOCK),
+];
+
+const ISSUING: &[Reasons] = &[(Step::Buffers, buffers::BUFFERS), (Step::Harmless, form::HARMLESS_FORM)];
+
+const AUTHORIZE: &[Reasons] = &[
+    (Step::Query, form::FORM),
+    (Step::Client, authorization::CLIENT),
+    (Step::Redirect, authorization::REDIRECT),
+    (Step::Request, authorization::REQUEST),
+    (Step::ResponseType, authorization::RESPONSE_TYPE),
+    (Step::Scope, scope::SCOPE),
+    (Step::Decision, authorization::DECISION),
+    (Step::Room, room::ROOM),
+    (Step::Clash, room::CLASH),
+    (Step::Harmless, scope::HARMLESS_SCOPE),
+    (Step::Harmless, authorization::HARMLESS_AUTHORIZATION),
+];
+
+/// Of every grant of the token endpoint.
+const GRANT: &[Reasons] = &[
+    (Step::Body, form::FORM),
+    (Step::Body, authentication::BODY),
+    (Step::Authentication, authentication::AUTHENTICATION),
+    (Step::GrantType, grant::GRANT_TYPE),
+    (Step::TokenRoom, room::ROOM),
+    (Step::TokenClash, room::CLASH),
+    (Step::Harmless, authentication::HARMLESS_TOKEN),
+];
+
+/// Of the grants for which a code or a refresh token is presented.
+const PRESENTED_GRANT: &[Reasons] = &[
+    (Step::Presented, grant::PRESENTED),
+    (Step::Grant, grant::GRANT),
+    (Step::TokenClash, room::PRESENTED_CLASH),
+    (Step::Harmless, presented::HARMLESS_PRESENTED),
+];
+
+/// Of the grants that issue an access token alone: a scope is read, and the last random bytes are not.
+const SINGLE_TOKEN: &[Reasons] =
+    &[(Step::TokenScope, scope::SCOPE), (Step::Harmless, scope::HARMLESS_SCOPE), (Step::Harmless, room::SECOND_CLASH)];
+
+const EXCHANGE: &[Reasons] = &[
+    (Step::Grant, grant::CODE_GRANT),
+    (Step::TokenClash, room::SECOND_CLASH),
+    (Step::TokenClash, room::SECOND_PRESENTED_CLASH),
+    (Step::Harmless, grant::HARMLESS_EXCHANGE),
+];
+
+const REFRESH: &[Reasons] =
+    &[(Step::Harmless, room::SECOND_PRESENTED_CLASH), (Step::Harmless, grant::HARMLESS_REFRESH)];
+
+const CLIENT_CREDENTIALS: &[Reasons] =
+    &[(Step::GrantNotForClient, grant::PUBLIC_CLIENT), (Step::Harmless, grant::HARMLESS_CLIENT_CREDENTIALS)];
+
+const CHECK: &[Reasons] = &[
+    (Step::Token, check::TOKEN),
+    (Step::Harmless, presented::HARMLESS_PRESENTED),
+    (Step::Harmless, check::HARMLESS_CHECK),
+];

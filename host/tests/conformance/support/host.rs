@@ -58,7 +58,18 @@ impl Host {
 
     /// The random bytes are twenty that count up from `random`; the farm is 7.
     pub fn authorize(&mut self, query: impl AsRef<[u8]>, decision: u64, clock: u64, random: u8) -> Authorized {
-        let request = Request::Authorize { query: query.as_ref().to_vec(), decision, farm: 7 };
+        self.authorize_farm(7, query, decision, clock, random)
+    }
+
+    pub fn authorize_farm(
+        &mut self,
+        farm: u32,
+        query: impl AsRef<[u8]>,
+        decision: u64,
+        clock: u64,
+        random: u8,
+    ) -> Authorized {
+        let request = Request::Authorize { query: query.as_ref().to_vec(), decision, farm };
         let after = self.run(request, clock, &counting(random));
         let Answer::Authorize(answer) = after.answer else { unreachable!() };
         match answer.refusal {
@@ -69,8 +80,18 @@ impl Host {
 
     /// The random bytes are forty that count up from `random`.
     pub fn token(&mut self, header: impl AsRef<[u8]>, body: impl AsRef<[u8]>, clock: u64, random: u8) -> Reply {
+        self.token_with(header, body, clock, [counting(random), counting(random + 20)])
+    }
+
+    pub fn token_with(
+        &mut self,
+        header: impl AsRef<[u8]>,
+        body: impl AsRef<[u8]>,
+        clock: u64,
+        random: [[u8; 20]; 2],
+    ) -> Reply {
         let request = Request::Token { header: header.as_ref().to_vec(), body: body.as_ref().to_vec() };
-        let after = self.run(request, clock, &[counting(random), counting(random + 20)].concat());
+        let after = self.run(request, clock, &random.concat());
         let Answer::Token(answer) = after.answer else { unreachable!() };
         assert_eq!(answer.refusal, 0);
         let word = ErrorWord::ALL.iter().find(|word| word.number() == answer.error);

@@ -39,7 +39,7 @@ pub struct World {
     pub store: Vec<u8>,
     /// Odd stores take their handles from here.
     few_handles: Vec<[u8; 20]>,
-    faults: [Vec<Fault>; 4],
+    faults: [Vec<Fault>; Action::ALL.len()],
     /// Some of the calls that issued something, to be made again.
     granted: Vec<(Action, Call)>,
 }
@@ -136,7 +136,14 @@ impl World {
         if !self.granted.is_empty() && rng.chance(4) {
             return self.draw_again(rng, reasons);
         }
-        let action = rng.pick(&[Action::Authorize, Action::Exchange, Action::Exchange, Action::Refresh, Action::Check]);
+        let action = rng.pick(&[
+            Action::Authorize,
+            Action::Exchange,
+            Action::Exchange,
+            Action::Refresh,
+            Action::ClientCredentials,
+            Action::Check,
+        ]);
         let mut draft = self.sound_draft(action, rng);
         let sound = self.spoil(&mut draft, rng, reasons);
         let mut call = draft.call_in_any_writing(rng);
@@ -175,7 +182,7 @@ impl World {
             reasons.extend(faults(action).iter().map(|fault| format!("{}: {}", action.name(), fault.reason)));
             reasons.push(format!("{}: damaged bytes", action.name()));
         }
-        for action in [Action::Authorize, Action::Exchange, Action::Refresh] {
+        for action in Action::ISSUING {
             reasons.push(format!("{}: made again", action.name()));
         }
         reasons.sort();
@@ -192,7 +199,7 @@ impl World {
                 random.truncate(20);
                 let client = rng.below(self.clients.len());
                 let mut draft = Draft::authorize(&self.clients, &self.store, clock, client, random);
-                draft.farm = rng.next() as u32;
+                draft.farm = rng.between(1, u32::MAX as usize) as u32;
                 if rng.chance(40) {
                     draft.params.push("redirect_uri", &self.clients[client].redirect);
                 }
@@ -211,14 +218,31 @@ impl World {
                 }
                 draft
             }
+            Action::ClientCredentials => {
+                let client = self.choose_confidential(rng);
+                let mut draft = Draft::client_credentials(&self.clients, &self.store, clock, client, random);
+                if rng.chance(40) {
+                    give_scope(&mut draft, rng);
+                }
+                draft
+            }
             Action::Check => Draft::check(&self.clients, &self.store, clock, slot),
         }
+    }
+
+    /// A client that may ask for itself, if there is one; now and then any.
+    fn choose_confidential(&self, rng: &mut Rng) -> usize {
+        let mut clients: Vec<usize> = (0..self.clients.len()).collect();
+        if rng.chance(90) && self.clients.iter().any(|client| client.secret.is_some()) {
+            clients.retain(|&client| self.clients[client].secret.is_some());
+        }
+        rng.pick(&clients)
     }
 
     /// A slot that holds what the action presents, a live one if there is one; or else any slot.
     fn choose_slot(&self, action: Action, rng: &mut Rng) -> usize {
         let kinds: &[u8] = match action {
-            Action::Authorize => return 0,
+            Action::Authorize | Action::ClientCredentials => return 0,
             Action::Exchange => &[sample::CODE, sample::BOUND_CODE],
             Action::Refresh => &[sample::REFRESH],
             Action::Check => &[sample::ACCESS],

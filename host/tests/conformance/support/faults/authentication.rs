@@ -188,8 +188,7 @@ fn percent(text: &[u8]) -> Vec<u8> {
 }
 
 fn public_header(draft: &mut Draft, rng: &mut Rng, secret: &[u8]) {
-    let public: Vec<usize> =
-        (0..draft.clients.len()).filter(|&client| draft.clients[client].secret.is_none()).collect();
+    let public = draft.public_clients();
     if public.is_empty() {
         return draft.authenticate_by_header(sample::basic_header(b"nobody", secret));
     }

@@ -3,7 +3,6 @@
 use poplarchime_host::plain::scope::ScopeSet;
 
 use super::room::fill;
-use super::scope::give_scope;
 use super::texts::{cut, longer, one_less, other_end, repeat};
 use super::Apply;
 use crate::support::draft::Draft;
@@ -95,18 +94,23 @@ pub const DECISION: &[(&str, Apply)] = &[
     ("decision 257", |d, _| d.decision = 257),
     ("decision 2^32+1", |d, _| d.decision = (1 << 32) + 1),
     ("decision 2^64-1", |d, _| d.decision = u64::MAX),
+    ("farm 0", |d, _| d.farm = 0),
+    ("decision 0 for farm 0", |d, _| (d.decision, d.farm) = (0, 0)),
+    ("decision 2 for farm 0", |d, _| (d.decision, d.farm) = (2, 0)),
 ];
 
 pub const HARMLESS_AUTHORIZATION: &[(&str, Apply)] = &[
     ("redirect_uri given", |d, _| d.params.set("redirect_uri", d.asking().redirect.clone())),
-    ("scope given", |d, rng| give_scope(d, rng)),
     ("no state", |d, _| d.params.remove("state")),
     ("state of 200 bytes", |d, rng| {
         let state: Vec<u8> = (0..200).map(|_| rng.between(0x20, 0x7e) as u8).collect();
         d.params.set("state", state);
     }),
     ("state of every byte allowed", |d, _| d.params.set("state", (0x20..=0x7e).collect::<Vec<u8>>())),
-    ("farm 0", |d, _| d.farm = 0),
+    ("farm 1", |d, _| d.farm = 1),
+    ("farm 256", |d, _| d.farm = 256),
+    ("farm 2^16", |d, _| d.farm = 1 << 16),
+    ("farm 2^31", |d, _| d.farm = 1 << 31),
     ("farm 2^32-1", |d, _| d.farm = u32::MAX),
     ("one slot left", |d, rng| fill(d, rng, 1)),
 ];

@@ -29,7 +29,6 @@ pub const TOKEN: &[(&str, Apply)] = &[
 
 pub const HARMLESS_CHECK: &[(&str, Apply)] = &[
     ("expiry of 2^64-1", |d, _| d.edit_slot(d.presented, |slot| slot.expiry = u64::MAX)),
-    ("farm of 2^32-1", |d, _| d.edit_slot(d.presented, |slot| slot.farm = u32::MAX)),
     ("scope set beyond the client's", |d, _| d.edit_slot(d.presented, |slot| slot.scope = 255)),
     ("code and refresh token of the same handle", |d, rng| {
         let held = d.presented_slot();

@@ -1,31 +1,45 @@
-//! The token endpoint: codes and refresh tokens, and what is asked for them.
+//! The token endpoint: the grants, codes and refresh tokens, and who may use them.
 
 use poplarchime_host::sample;
 
 use super::presented::{hide, present, presented_name, run_out};
-use super::room::clash;
-use super::scope::give_scope;
 use super::texts::{cut, longer, one_less, other_end};
 use super::Apply;
 use crate::support::draft::{Action, Draft};
 
 pub const GRANT_TYPE: &[(&str, Apply)] = &[
-    ("grant_type password", |d, _| spoil_grant_type(d, "password")),
-    ("grant_type client_credentials", |d, _| spoil_grant_type(d, "client_credentials")),
+    ("grant_type password", |d, _| spoil_grant_type(d, |_| b"password".into())),
     ("grant_type of an extension", |d, _| {
-        spoil_grant_type(d, "urn:ietf:params:oauth:grant-type:saml2-bearer");
+        spoil_grant_type(d, |_| b"urn:ietf:params:oauth:grant-type:saml2-bearer".into());
     }),
-    ("grant_type in capitals", |d, _| spoil_grant_type(d, "Authorization_Code")),
-    ("grant_type cut", |d, _| spoil_grant_type(d, "refresh_toke")),
-    ("grant_type longer", |d, _| spoil_grant_type(d, "authorization_code ")),
+    ("grant_type in capitals", |d, _| spoil_grant_type(d, <[u8]>::to_ascii_uppercase)),
+    ("grant_type with a capital", |d, _| {
+        spoil_grant_type(d, |own| [&own[..1].to_ascii_uppercase(), &own[1..]].concat());
+    }),
+    ("grant_type cut", |d, _| spoil_grant_type(d, cut)),
+    ("grant_type cut in front", |d, _| spoil_grant_type(d, |own| own[1..].into())),
+    ("grant_type longer", |d, _| spoil_grant_type(d, longer)),
+    ("grant_type with a space behind it", |d, _| spoil_grant_type(d, |own| [own, b" "].concat())),
+    ("grant_type with a zero byte behind it", |d, _| spoil_grant_type(d, |own| [own, b"\0"].concat())),
+    ("grant_type with another last byte", |d, _| spoil_grant_type(d, other_end)),
 ];
 
 /// Leaves a missing grant_type missing.
-fn spoil_grant_type(draft: &mut Draft, value: &str) {
-    if draft.params.get("grant_type").is_some() {
-        draft.params.set("grant_type", value);
+fn spoil_grant_type(draft: &mut Draft, spoil: fn(&[u8]) -> Vec<u8>) {
+    if let Some(own) = draft.params.get("grant_type") {
+        let spoiled = spoil(own);
+        draft.params.set("grant_type", spoiled);
     }
 }
+
+/// Client credentials are for clients that have a secret.
+pub const PUBLIC_CLIENT: &[(&str, Apply)] = &[
+    ("a public client", |d, rng| match &d.public_clients()[..] {
+        [] => d.make_public(),
+        public => d.authenticate(rng.pick(public)),
+    }),
+    ("a client that is registered as public now", |d, _| d.make_public()),
+];
 
 pub const PRESENTED: &[(&str, Apply)] = &[
     ("nothing presented", |d, _| d.params.remove(presented_name(d))),
@@ -119,15 +133,20 @@ pub const HARMLESS_EXCHANGE: &[(&str, Apply)] = &[
     }),
 ];
 
-pub const HARMLESS_REFRESH: &[(&str, Apply)] = &[
-    ("nonsense as code and redirect_uri", |d, _| {
+pub const HARMLESS_REFRESH: &[(&str, Apply)] = &[("nonsense as code and redirect_uri", |d, _| {
+    d.params.set("code", "nonsense");
+    d.params.set("redirect_uri", "nonsense");
+})];
+
+pub const HARMLESS_CLIENT_CREDENTIALS: &[(&str, Apply)] = &[
+    ("nonsense as code, redirect_uri and refresh_token", |d, _| {
         d.params.set("code", "nonsense");
         d.params.set("redirect_uri", "nonsense");
+        d.params.set("refresh_token", "nonsense");
     }),
-    ("scope given", |d, rng| give_scope(d, rng)),
-    ("last random bytes of a live slot", |d, rng| clash(d, rng, 20)),
-    ("last random bytes of the presented slot", |d, _| {
-        d.random.splice(20.., d.presented_slot().handle).for_each(drop);
+    ("a handle from the store as code and refresh_token", |d, rng| {
+        let handle = sample::slot(&d.store, rng.below(sample::SLOTS)).handle_text();
+        d.params.set("code", &handle);
+        d.params.set("refresh_token", &handle);
     }),
-    ("first and last random bytes equal", |d, _| d.random.copy_within(..20, 20)),
 ];

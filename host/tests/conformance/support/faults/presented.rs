@@ -3,10 +3,17 @@
 use poplarchime_host::sample::{self, Slot};
 
 use super::room::time;
+use super::Apply;
 use crate::support::draft::{Action, Draft};
 use crate::support::rng::Rng;
 
 const CLOCK_LIMIT: u64 = 1 << 40;
+
+/// No owner can allow farm 0, but a slot may hold it.
+pub const HARMLESS_PRESENTED: &[(&str, Apply)] = &[
+    ("slot of farm 0", |d, _| d.edit_slot(d.presented, |slot| slot.farm = 0)),
+    ("slot of farm 2^32-1", |d, _| d.edit_slot(d.presented, |slot| slot.farm = u32::MAX)),
+];
 
 pub fn presented_name(draft: &Draft) -> &'static str {
     match draft.action {

@@ -3,7 +3,7 @@
 use poplarchime_host::sample::{self, Slot};
 
 use super::Apply;
-use crate::support::draft::{Action, Draft};
+use crate::support::draft::Draft;
 use crate::support::rng::Rng;
 
 pub const ROOM: &[(&str, Apply)] = &[("no slot left", |d, rng| fill(d, rng, 0))];
@@ -15,20 +15,22 @@ pub const CLASH: &[(&str, Apply)] = &[
         let lowest = vacant(d).next().unwrap_or_default();
         clash_with_old(d, rng, lowest, 0);
     }),
-    ("random bytes of the presented slot", |d, rng| match d.action {
-        Action::Authorize => clash(d, rng, 0),
-        _ => d.random.splice(..20, d.presented_slot().handle).for_each(drop),
-    }),
 ];
 
+pub const PRESENTED_CLASH: &[(&str, Apply)] = &[("random bytes of the presented slot", |d, _| {
+    d.random.splice(..20, d.presented_slot().handle).for_each(drop);
+})];
+
+/// Only where two tokens are issued; else the last random bytes are ignored.
 pub const SECOND_CLASH: &[(&str, Apply)] = &[
     ("last random bytes of a live slot", |d, rng| clash(d, rng, 20)),
     ("last random bytes of a slot that has run out", |d, rng| clash_with_old(d, rng, sample::SLOTS - 1, 20)),
-    ("last random bytes of the presented slot", |d, _| {
-        d.random.splice(20.., d.presented_slot().handle).for_each(drop);
-    }),
     ("first and last random bytes equal", |d, _| d.random.copy_within(..20, 20)),
 ];
+
+pub const SECOND_PRESENTED_CLASH: &[(&str, Apply)] = &[("last random bytes of the presented slot", |d, _| {
+    d.random.splice(20.., d.presented_slot().handle).for_each(drop);
+})];
 
 /// The time of the draft's call.
 pub fn time(draft: &Draft) -> u64 {
@@ -53,10 +55,10 @@ pub fn fill(draft: &mut Draft, rng: &mut Rng, left: usize) {
 
 /// Gives the random bytes from `half` on to a live slot, other than the presented one.
 pub fn clash(draft: &mut Draft, rng: &mut Rng, half: usize) {
-    let (now, presented) = (time(draft), draft.presented);
+    let now = time(draft);
     let live: Vec<usize> = sample::slots(&draft.store)
         .enumerate()
-        .filter(|&(number, slot)| slot.is_live(now) && number != presented)
+        .filter(|&(number, slot)| slot.is_live(now) && !draft.presents(number))
         .map(|(number, _)| number)
         .collect();
     let handle = handle_at(draft, half);
@@ -71,7 +73,7 @@ pub fn clash(draft: &mut Draft, rng: &mut Rng, half: usize) {
 
 /// Puts a slot that has run out, with the random bytes from `half` on, in the place of another.
 fn clash_with_old(draft: &mut Draft, rng: &mut Rng, number: usize, half: usize) {
-    let number = if number == draft.presented { (number + 1) % sample::SLOTS } else { number };
+    let number = if draft.presents(number) { (number + 1) % sample::SLOTS } else { number };
     let slot = Slot {
         kind: rng.between(1, 4) as u8,
         handle: handle_at(draft, half),

@@ -1,13 +1,12 @@
-//! Scopes of an authorization and of a refresh.
+//! Scopes of an authorization, of a refresh and of client credentials.
 
-use poplarchime_host::plain::scope::NAMES;
+use poplarchime_host::plain::scope::{ScopeSet, NAMES};
 
 use super::texts::{cut, longer};
 use super::Apply;
 use crate::support::draft::{Action, Draft};
 use crate::support::rng::Rng;
 
-/// For an authorization and for a refresh.
 pub const SCOPE: &[(&str, Apply)] = &[
     ("two spaces in a scope", |d, _| d.params.set("scope", two_names(d, "  "))),
     ("space before a scope", |d, _| d.params.set("scope", format!(" {}", a_name(granted(d))))),
@@ -21,15 +20,21 @@ pub const SCOPE: &[(&str, Apply)] = &[
     ("scope cut", |d, _| d.params.set("scope", cut(a_name(granted(d)).as_bytes()))),
     ("scope longer", |d, _| d.params.set("scope", longer(a_name(granted(d)).as_bytes()))),
     ("scope in capitals", |d, _| d.params.set("scope", a_name(granted(d)).to_uppercase())),
-    ("scope beyond the granted one", |d, rng| beyond(d, rng, false)),
-    ("scope partly beyond the granted one", |d, rng| beyond(d, rng, true)),
+    ("scope beyond the granted one", |d, rng| beyond(d, rng, |_| String::new())),
+    ("scope partly beyond the granted one", |d, rng| beyond(d, rng, |granted| format!("{} ", a_name(granted)))),
+    ("a name more than the whole scope", |d, rng| beyond(d, rng, |granted| format!("{} ", ScopeSet(granted).text()))),
 ];
 
-/// The set that a scope may not exceed.
+pub const HARMLESS_SCOPE: &[(&str, Apply)] = &[
+    ("scope given", |d, rng| give_scope(d, rng)),
+    ("whole scope given", |d, _| d.params.set("scope", ScopeSet(granted(d)).text())),
+];
+
+/// The set that a scope may not exceed: a refresh token's own, else that of the client that asks.
 fn granted(draft: &Draft) -> u8 {
     match draft.action {
-        Action::Authorize => draft.asking().scope,
-        _ => draft.presented_slot().scope,
+        Action::Refresh => draft.presented_slot().scope,
+        _ => draft.asking().scope,
     }
 }
 
@@ -43,19 +48,17 @@ fn two_names(draft: &Draft, between: &str) -> String {
     format!("{name}{between}{name}")
 }
 
-fn beyond(draft: &mut Draft, rng: &mut Rng, partly: bool) {
+/// Asks for a name that is not granted, behind others that are.
+fn beyond(draft: &mut Draft, rng: &mut Rng, before: fn(u8) -> String) {
     if granted(draft) == 255 {
         match draft.action {
-            Action::Authorize => return draft.params.set("scope", "everything"),
-            _ => draft.edit_slot(draft.presented, |slot| slot.scope = 0b0101_0101),
+            Action::Refresh => draft.edit_slot(draft.presented, |slot| slot.scope = 0b0101_0101),
+            _ => return draft.params.set("scope", "everything"),
         }
     }
     let missing: Vec<&str> = (0..8).filter(|bit| granted(draft) >> bit & 1 == 0).map(|bit| NAMES[bit]).collect();
     let missing = rng.pick(&missing);
-    match partly {
-        true => draft.params.set("scope", format!("{} {missing}", a_name(granted(draft)))),
-        false => draft.params.set("scope", missing),
-    }
+    draft.params.set("scope", format!("{}{missing}", before(granted(draft))));
 }
 
 /// Some of the names granted, in any order, one of them twice.
