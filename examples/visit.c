@@ -1,6 +1,6 @@
 /*
  * A host in C that plays the papers' visit from end to end: two apps ask for a farm's readings. Then a server asks for
- * its own.
+ * its own, and an app has a secret that must be coded before it is sent.
  *
  * It shows each request and answer, and holds each answer to what the papers say. The last line is
  * 'N passed, M failed', and the exit status is 0 only if M is 0. `examples/run` builds and runs it.
@@ -330,6 +330,24 @@ static void client_for_itself(struct host *host)
                   "https://client.example.com/cb?error=access_denied&state=xyz");
 }
 
+/* Base64 of `dryerapp:a%25b`, which is `dryerapp` and `a%b` form-coded; and of `dryerapp:a%b`, as it stands. */
+#define DRYER_BASIC "Basic ZHJ5ZXJhcHA6YSUyNWI="
+#define DRYER_BASIC_UNCODED "Basic ZHJ5ZXJhcHA6YSVi"
+
+static void secret_with_a_percent_sign(struct host *host)
+{
+    start(host);
+    add_client(host, "dryerapp", "https://dryer.example/cb", POPLARCHIME_SCOPE_DRYING, "a%b");
+    title("The secret is a%b. The app's library form-codes id and secret before base64, and so it sends a%25b");
+    replies(host, DRYER_BASIC, "grant_type=client_credentials", 1000, 0x20, 200, 0, ONE_TOKEN(ACCESS, "drying"));
+    is_live_for(host, NO_FARM, ACCESS, 1000, 2, POPLARCHIME_SCOPE_DRYING, 3600);
+    title("Sent as it stands it is malformed: no two hex digits follow the percent sign");
+    replies(host, DRYER_BASIC_UNCODED, "grant_type=client_credentials", 1000, 0x50, 401, 1, INVALID_CLIENT);
+    title("The body is a form, and there it is coded the same way");
+    replies(host, "", "grant_type=client_credentials&client_id=dryerapp&client_secret=a%25b", 1000, 0x50, 200, 0,
+            ONE_TOKEN(LATER_ACCESS, "drying"));
+}
+
 static void bad_requests(struct host *host)
 {
     start(host);
@@ -391,6 +409,7 @@ int main(void)
     time_that_never_goes_back(&host);
     public_client(&host);
     client_for_itself(&host);
+    secret_with_a_percent_sign(&host);
     bad_requests(&host);
     bad_hosts(&host);
     printf("\n%d passed, %d failed\n", passed, failed);

@@ -28,7 +28,7 @@
  * The version of this interface and of the archive that goes with it. Where the second number moves, a host may have to
  * change: docs/changes/ says what moved.
  */
-#define POPLARCHIME_VERSION "0.2.0"
+#define POPLARCHIME_VERSION "0.3.0"
 
 #ifdef __cplusplus
 extern "C" {
@@ -199,8 +199,9 @@ struct poplarchime_authorization poplarchime_authorize(
 /*
  * The token endpoint, for POST requests: grants `authorization_code`, `refresh_token` and `client_credentials`. By the
  * last one a confidential client gets an access token for itself; a public one gets `unauthorized_client`. `header` is
- * the value of the Authorization field, of length 0 when there was none. `body` is the form in the request's body.
- * `output` receives the reply's body.
+ * the value of the Authorization field, of length 0 when there was none; in it the client has form-coded its id and its
+ * secret before base64 (RFC 6749 section 2.3.1), so that a secret `a%b` comes as `a%25b`. `body` is the form in the
+ * request's body. `output` receives the reply's body.
  */
 struct poplarchime_token_reply poplarchime_token(
     const uint8_t *header, size_t header_length,

@@ -145,10 +145,15 @@ pub fn hex(bytes: &[u8]) -> String {
     bytes.iter().map(|byte| format!("{byte:02x}")).collect()
 }
 
-/// The value of an Authorization header with these credentials (RFC 7617).
+/// The value of an Authorization header with these halves as they stand: an id or secret with a `%` or `+` in it must
+/// come form-coded (RFC 6749 section 2.3.1).
 pub fn basic_header(id: &[u8], secret: &[u8]) -> Vec<u8> {
-    let credentials = [id, b":", secret].concat();
-    [b"Basic ", base64(&credentials).as_bytes()].concat()
+    basic_header_of(&[id, b":", secret].concat())
+}
+
+/// The value of an Authorization header of the Basic scheme that holds these bytes (RFC 7617).
+pub fn basic_header_of(contents: &[u8]) -> Vec<u8> {
+    [b"Basic ", base64(contents).as_bytes()].concat()
 }
 
 pub fn base64(bytes: &[u8]) -> String {

@@ -6,17 +6,17 @@
 -- Not here: the fields of a record (`Records`).
 -- Assumes nothing.
 use mathlib.Core.Path.{_≡_, sym, ap, ap₂, _∙_}
-use mathlib.Core.Bool.{Bool, true, false, _&&_, and-true}
+use mathlib.Core.Bool.{Bool, true, false, not, _&&_, and-true}
 use mathlib.Core.List.{List, _∷_, _++_}
 use Prim.Native.Nat.{ℕ, _+_, _-_, _≤_, _<_}
 use native.Mathlib.Omega.{arith}
 use borrow.Author.Tests.{le-leb, lt-leb, leb-true}
-use lib.Dec.{leb}
+use lib.Dec.{leb, eqb}
 use lib.ListN.{length, take, getD, replicate}
 use lib.Seq.{take-append-seam}
-use Rattle.octets.specs.Lists.{part, every, isZero, inClass, same}
+use Rattle.octets.specs.Lists.{part, Bytes, every, isZero, inClass, same}
 use Rattle.octets.proofs.Booleans.{and-three}
-use Rattle.octets.proofs.Lists.{every-zero, same-iff, length-part, part-add, part-to, part-one}
+use Rattle.octets.proofs.Lists.{every-zero, same-iff, class-bytes, length-part, part-add, part-to, part-one}
 use Rattle.client_registry.specs.Layout.{idRoom, redirectRoom, secretRoom}
 use Rattle.client_registry.specs.Registry.{soundText, soundId, soundRedirect, soundSecret, soundField, fieldText, fieldRest}
 use Rattle.client_registry.specs.Sample.{fieldOf}
@@ -79,6 +79,12 @@ unfolding soundText
 sound-text room low high except x e =
     let h = and-three (leb 1 (length x)) (leb (length x) room) (every (inClass low high except) x) e in
     record { least = leb-true 1 (length x) (h .0); most = leb-true (length x) room (h .1); class = h .2 }
+
+-- a text of a class of bytes is made of bytes
+pub text-bytes : {room low high except : ℕ} {x : List ℕ} → Text room low high except x → high < 256 → Bytes x
+text-bytes {low = low} {high = high} {except = except} {x = x} t small =
+    class-bytes (inClass low high except)
+    (λ b e. omega (arith, leb-true b high (and-three (leb low b) (leb b high) (not (eqb b except)) e .1), small)) x (t .class)
 
 -- the texts of a client
 pub id-text : (x : List ℕ) → soundId x ≡ true → Text idRoom 0x20 0x7E 0x3A x

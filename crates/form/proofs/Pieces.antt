@@ -26,7 +26,7 @@ use Rattle.form.specs.Writing.{join}
 -- ---- a text that lacks x
 
 index-lacks : (x : ℕ) (a b : List ℕ) → lacks x a ≡ true → indexOf x (a ++ b) ≡ length a + indexOf x b
-unfolding indexOf lacks
+unfolding indexOf every
 index-lacks x [] b e = rw zero-add
 index-lacks x (c ∷ a) b e = rw suc-add (by (eqb c x) e (index-lacks x a b))
   where

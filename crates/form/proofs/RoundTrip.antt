@@ -9,12 +9,13 @@ use Prim.Native.Nat.{ℕ}
 use mathlib.Core.Path.{_≡_, refl, _∙_, ap}
 use mathlib.Core.List.{List, [], _∷_, map}
 use mathlib.Core.Bool.{Bool, true, cond, not, _&&_}
+use lib.Dec.{eqb}
 use lib.ListN.{length}
 use lib.Seq.{take-append-seam, drop-append-add}
 use Rattle.octets.specs.Lists.{Bytes, every, same, indexOf, splitOn}
-use Rattle.octets.proofs.Booleans.{of-T}
+use Rattle.octets.proofs.Lists.{every-append}
 use Rattle.form_coding.specs.Coding.{wellFormed, encode, lacks}
-use Rattle.form_coding.proofs.RoundTrip.{round-trip, well-written, lacks-append, no-ampersand, no-equals, equals, well-apart}
+use Rattle.form_coding.proofs.RoundTrip.{round-trip, well-written, no-ampersand, no-equals, equals, well-apart}
 use Rattle.form.specs.Content.{isWellFormedForm, pieceName, pieceValue, gives, Value, missing, add, valueIn, formValue}
 use Rattle.form.specs.Writing.{Field, OfBytes, writePiece, join, writeForm, fieldValue}
 use Rattle.form.proofs.Pieces.{index-apart, split-join, well-join, pieces-well}
@@ -25,7 +26,7 @@ use Rattle.form.proofs.Places.{gives-value}
 module _ (f : Field) (n : Bytes (f .name)) (v : Bytes (f .value)) where
   equals-at : indexOf 61 (writePiece f) ≡ length (encode (f .name))
   unfolding writePiece
-  equals-at = index-apart 61 (encode (f .name)) (encode (f .value)) (of-T (lacks 61 (encode (f .name))) (no-equals (f .name) n))
+  equals-at = index-apart 61 (encode (f .name)) (encode (f .value)) (no-equals (f .name) n)
 
   pub name-back : pieceName (writePiece f) ≡ f .name
   unfolding pieceName writePiece
@@ -42,10 +43,10 @@ module _ (f : Field) (n : Bytes (f .name)) (v : Bytes (f .value)) where
   adds-back m acc = rw (gives-value, name-back, value-back)
 
   piece-lacks : lacks 38 (writePiece f) ≡ true
-  unfolding writePiece lacks
+  unfolding writePiece every
   piece-lacks =
-      of-T (lacks 38 (writePiece f))
-      (lacks-append 38 (encode (f .name)) (61 ∷ encode (f .value)) (no-ampersand (f .name) n) (no-ampersand (f .value) v))
+      every-append (λ c. not (eqb c 38)) (encode (f .name)) (61 ∷ encode (f .value))
+      ∙ rw (no-ampersand (f .name) n, no-ampersand (f .value) v)
 
   piece-well : wellFormed (writePiece f) ≡ true
   unfolding writePiece

@@ -1,4 +1,4 @@
--- What the writer writes of any bytes decodes to those bytes, is well formed, and holds no & and no =.
+-- What the writer writes of any bytes decodes to those bytes, is well formed, and holds no &, no = and no colon.
 --
 -- In order: one byte that is written, then all of them; separators, at which a text is read in two; the length of what is
 -- written and of what is decoded, and a text that is empty.
@@ -8,15 +8,15 @@
 use Prim.Native.Nat.{ℕ, zero, suc, _+_, _*_, _/_, _%_, _<_, _≤_}
 use mathlib.Core.Path.{_≡_, refl, sym, _∙_, ap}
 use mathlib.Core.List.{List, [], _∷_, _++_}
-use mathlib.Core.Bool.{true, false, not, _&&_, false≢true, and-assoc}
+use mathlib.Core.Bool.{Bool, true, false, not, _&&_, false≢true, and-assoc}
 use native.Mathlib.Omega.{arith}
 use borrow.Author.Tests.{lt-ltb, ne-eqb, eqb-true, eqb-false, not-true}
-use lib.Dec.{eqb, T}
-use lib.ListN.{length, length-append}
-use Rattle.octets.specs.Lists.{Bytes}
-use Rattle.octets.proofs.Booleans.{by-test, to-T, of-T}
-use Rattle.octets.proofs.Lists.{tail-bytes}
-use Rattle.octets.proofs.Table.{below, both-left, both-right}
+use lib.Dec.{ltb, eqb, T}
+use lib.ListN.{length, length-append, replicate}
+use Rattle.octets.specs.Lists.{Bytes, every}
+use Rattle.octets.proofs.Booleans.{by-test}
+use Rattle.octets.proofs.Lists.{every-append, tail-bytes}
+use Rattle.octets.proofs.Table.{everyFrom, below}
 use Rattle.encoding.specs.Hex.{hexValue, hexDigit}
 use Rattle.encoding.proofs.Hex.{upper-round}
 use Rattle.form_coding.specs.Coding.{isEscape, plain, firstByte, extra, decodeAfter, decode, sound, wellFormed, isKept, encodeByte, encode, lacks}
@@ -70,10 +70,9 @@ module _ (b : ℕ) (h : b < 256) (rest : List ℕ) where
       (λ e.
       by-test (eqb b 32) (λ f. rw (byte-space b e (eqb-true b 32 f))) (λ f. rw (byte-escape b e (eqb-false b 32 f)) escape-well))
 
--- each of the 256 bytes, as a test that antt computes
-byte-lacks : (b : ℕ) → b < 256 → T (lacks 38 (encodeByte b) && lacks 61 (encodeByte b))
-unfolding lacks encodeByte hexDigit
-byte-lacks b h = to-T (below (λ k. lacks 38 (encodeByte k) && lacks 61 (encodeByte k)) 256 tt b h)
+-- how each of the 256 bytes is written passes a test: antt computes it
+abbrev PassesWritten : (ℕ → Bool) → Type 0
+PassesWritten p = T (everyFrom (λ (b _ : ℕ). every p (encodeByte b)) 0 (replicate 256 0))
 
 -- ---- all that is written
 
@@ -87,24 +86,29 @@ unfolding encode wellFormed
 well-written [] h = refl
 well-written (b ∷ t) h = byte-well b (h 0) (encode t) ∙ well-written t (tail-bytes b t h)
 
-module _ (x : ℕ) where
-  pub lacks-append : (a b : List ℕ) → T (lacks x a) → T (lacks x b) → T (lacks x (a ++ b))
-  unfolding lacks
-  lacks-append [] b p q = q
-  lacks-append (c ∷ a) b p q =
-      let here = of-T (not (eqb c x)) (both-left (not (eqb c x)) (lacks x a) p) in
-      rw here (lacks-append a b (both-right (not (eqb c x)) (lacks x a) p) q)
+encode-every : (p : ℕ → Bool) → PassesWritten p → (l : List ℕ) → Bytes l → every p (encode l) ≡ true
+unfolding encode every
+encode-every p w [] h = refl
+encode-every p w (b ∷ t) h =
+    every-append p (encodeByte b) (encode t)
+    ∙ rw (below (λ k. every p (encodeByte k)) 256 w b (h 0)) (encode-every p w t (tail-bytes b t h))
 
-  encode-lacks : ((b : ℕ) → b < 256 → T (lacks x (encodeByte b))) → (l : List ℕ) → Bytes l → T (lacks x (encode l))
-  unfolding encode lacks
-  encode-lacks each [] h = tt
-  encode-lacks each (b ∷ t) h = lacks-append (encodeByte b) (encode t) (each b (h 0)) (encode-lacks each t (tail-bytes b t h))
+module _ (l : List ℕ) (h : Bytes l) where
+  pub no-ampersand : lacks 38 (encode l) ≡ true
+  unfolding every encodeByte hexDigit
+  no-ampersand = encode-every (λ c. not (eqb c 38)) tt l h
 
-pub no-ampersand : (l : List ℕ) → Bytes l → T (lacks 38 (encode l))
-no-ampersand = encode-lacks 38 (λ b h. both-left (lacks 38 (encodeByte b)) (lacks 61 (encodeByte b)) (byte-lacks b h))
+  pub no-equals : lacks 61 (encode l) ≡ true
+  unfolding every encodeByte hexDigit
+  no-equals = encode-every (λ c. not (eqb c 61)) tt l h
 
-pub no-equals : (l : List ℕ) → Bytes l → T (lacks 61 (encode l))
-no-equals = encode-lacks 61 (λ b h. both-right (lacks 38 (encodeByte b)) (lacks 61 (encodeByte b)) (byte-lacks b h))
+  pub no-colon : lacks 58 (encode l) ≡ true
+  unfolding every encodeByte hexDigit
+  no-colon = encode-every (λ c. not (eqb c 58)) tt l h
+
+  pub writes-bytes : every (λ c. ltb c 256) (encode l) ≡ true
+  unfolding every encodeByte hexDigit
+  writes-bytes = encode-every (λ c. ltb c 256) tt l h
 
 -- ---- separators
 

@@ -9,6 +9,7 @@ use mathlib.Core.List.{List, [], _∷_, _++_}
 use mathlib.Core.Bool.{Bool, true, cond, not, _&&_, _||_}
 use lib.Dec.{leb, ltb, eqb}
 use lib.ListN.{getD, length}
+use Rattle.octets.specs.Lists.{every}
 use Rattle.encoding.specs.Hex.{hexValue, hexDigit}
 use Rattle.form_coding.specs.declared.Symbol.{Symbol}
 
@@ -70,6 +71,5 @@ abbrev pub isAt : List ℕ → ℕ → ℕ → Bool
 isAt l k b = ltb k (length l) && eqb b (getD l k 0)
 
 -- no byte of the list is x
-unfoldable pub lacks : ℕ → List ℕ → Bool
-lacks x [] = true
-lacks x (c ∷ t) = not (eqb c x) && lacks x t
+abbrev pub lacks : ℕ → List ℕ → Bool
+lacks x = every (λ c. not (eqb c x))

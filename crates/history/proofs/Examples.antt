@@ -59,6 +59,10 @@ authorizeAt clock first = authorization rfcQuery 1 7 (handedAt clock 20 first)
 unfoldable pub header : List ℕ
 header = bytes "Basic czZCaGRSa3F0MzpnWDFmQmF0M2JW"
 
+-- the same id and secret with an escape in each half, `s6Bhd%52kqt3:gX1f%42at3bV`
+abbrev pub codedHeader : List ℕ
+codedHeader = bytes "Basic czZCaGQlNTJrcXQzOmdYMWYlNDJhdDNiVg=="
+
 -- an exchange by the first client, which repeats its redirect_uri, or does not
 unfoldable pub exchangeOf : List ℕ → List ℕ
 exchangeOf text = bytes "grant_type=authorization_code&code=" ++ text
@@ -198,6 +202,8 @@ cases =
           ∷ yes (asking [] (repeating barnText ++ bytes "&client_id=barnapp") 1510)  -- nor read
           ∷ no (asking header (exchangeOf lessText ++ bytes "&redirect_uri=https%3A%2F%2Fclient%2Eexample%2Ecom%2F") 1510)  -- another one
           ∷ no (asking header (repeating accessText) 1510)  -- an access token is no code
+          ∷ yes (asking codedHeader (repeating lessText) 1510)  -- the header's halves are coded
+          ∷ no (asking codedHeader (exchangeOf barnText) 1510)  -- the wrong client
           ∷ yes (asking header (refreshFor refreshText []) 2593499)  -- no scope is asked
           ∷ no (asking header (refreshFor refreshText []) 2593500)  -- 1500 and 2,592,000
           ∷ yes (asking header (refreshFor refreshText (bytes "&scope=bill+peak")) 1510)  -- less is asked
@@ -217,6 +223,7 @@ cases =
       calls = pumps;
       judged =
           yes (asking header (ownFor []) 1510)
+          ∷ yes (asking codedHeader (ownFor []) 1510)
           ∷ yes (asking header (ownFor (bytes "&scope=bill+peak+power")) 1510)  -- its whole set
           ∷ no (asking header (ownFor (bytes "&scope=bill+peak+power+pump")) 1510)  -- beyond it
           ∷ no (asking header (ownFor (bytes "&scope=power++bill")) 1510)  -- bad form

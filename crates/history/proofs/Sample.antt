@@ -9,12 +9,11 @@ use Prim.Native.Nat.{ℕ, _+_, _≤_}
 use native.Mathlib.Omega.{arith}
 use borrow.Author.Tests.{ltb-true, not-true}
 use lib.Dec.{ltb}
-use lib.ListN.{length, getD}
+use lib.ListN.{length}
 use Rattle.octets.specs.Lists.{Bytes, every, same}
 use Rattle.octets.specs.Search.{bit, count, keep}
-use Rattle.octets.proofs.Lists.{same-eq}
+use Rattle.octets.proofs.Lists.{same-eq, class-bytes}
 use Rattle.octets.proofs.Booleans.{and-left, and-right}
-use Rattle.octets.proofs.Searches.{every-each}
 use Rattle.client_registry.specs.Registry.{Client, soundText, soundId, soundRedirect, soundSecret, soundField, soundCommon, soundPublic, soundConfidential, soundRecord, recordSize, recordsBehind, soundRecords, clientsOf, differ, distinct, fitRegistry}
 use Rattle.client_registry.specs.Sample.{recordOf, registryOf, sampleConfidential, samplePublic, sampleClients, sampleRegistry}
 use Rattle.token_store.specs.Store.{Store, encode}
@@ -36,7 +35,7 @@ unfolding recordsBehind recordSize sampleRegistry sampleClients samplePublic sam
 sample-clients = refl
 
 pub tested-bytes : (b : List ℕ) → every (λ x. ltb x 256) b ≡ true → Bytes b
-tested-bytes b e k = ltb-true (getD b k 0) 256 (every-each (λ x. ltb x 256) 0 b refl e k)
+tested-bytes b e = class-bytes (λ x. ltb x 256) (λ x. ltb-true x 256) b e
 
 all-bytes : every (λ b. ltb b 256) sampleRegistry ≡ true
 unfolding every sampleRegistry sampleClients samplePublic sampleConfidential registryOf recordOf

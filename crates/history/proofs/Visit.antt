@@ -44,7 +44,7 @@ use Rattle.history.proofs.Theorem.{demand3, credentials-yield}
 use Rattle.history.proofs.CallsOnRecords.{resultOn, leftByAll, eventsOn, isFitting, Replayed, replay, replay-result, replay-fit}
 pub use Rattle.history.proofs.Sample.{sample-clients, sample-bytes}
 use Rattle.history.proofs.Sample.{sample-fit, tested-bytes, distinct-never}
-use Rattle.history.proofs.Examples.{inVisit, asking, exchangeAt, authorizeAt, codeText, lessText, refreshText, againText, barnQuery, barnAccess, barnBody, handedAt, header, exchangeOf, repeating, tokenAt, refreshFor, visit, day, evening, Case, Cases, cases, yields, may, isTyped, isAsked, isJudged, leftIn, containedIn, inDay, inEvening, claimAgrees, agreesOn, agrees, computed, accessText, barnCode, barnText, barnToken, codeUntil, redirect, tokenUntil, ownFor, ownText, lessOwnText, pumps, ownUntil, inPumps}
+use Rattle.history.proofs.Examples.{inVisit, asking, exchangeAt, authorizeAt, codeText, lessText, refreshText, againText, barnQuery, barnAccess, barnBody, handedAt, header, codedHeader, exchangeOf, repeating, tokenAt, refreshFor, visit, day, evening, Case, Cases, cases, yields, may, isTyped, isAsked, isJudged, leftIn, containedIn, inDay, inEvening, claimAgrees, agreesOn, agrees, computed, accessText, barnCode, barnText, barnToken, codeUntil, redirect, tokenUntil, ownFor, ownText, lessOwnText, pumps, ownUntil, inPumps}
 
 -- ---- what the claim speaks of
 
@@ -307,6 +307,9 @@ pub record Shown : Type 0 where
   pub exchange-reply-less : textIn (afterDay (asking header (repeating lessText) 1510))
       ≡ bytes "{\"access_token\":\"c0c1c2c3c4c5c6c7c8c9cacbcccdcecfd0d1d2d3\",\"token_type\":\"Bearer\",\"expires_in\":3600,"
       ++ bytes "\"refresh_token\":\"d4d5d6d7d8d9dadbdcdddedfe0e1e2e3e4e5e6e7\",\"scope\":\"peak bill\"}"
+  -- by a header whose halves are coded: the client that has the code, and one that has not
+  pub exchange-coded : afterDay (asking codedHeader (repeating lessText) 1510) .granted ≡ true
+  pub exchange-coded-other : afterDay (asking codedHeader (exchangeOf barnText) 1510) .granted ≡ false
   -- "A refresh reply is the same without its refresh_token member.", with the scope granted, or the one asked
   pub refresh-reply : textIn (afterDay (asking header (refreshFor refreshText []) 1510))
       ≡ bytes "{\"access_token\":\"c0c1c2c3c4c5c6c7c8c9cacbcccdcecfd0d1d2d3\",\"token_type\":\"Bearer\",\"expires_in\":3600,"
@@ -367,6 +370,8 @@ shown = record {
       answers-text
       (by-exchange-replies theDay header b handed refl refl refl
       (by-exchanges theDay header b handed refl refl refl));
+  exchange-coded = by-exchanges theDay codedHeader (repeating lessText) (handedAt 1510 40 0xC0) refl refl refl;
+  exchange-coded-other = by-exchanges theDay codedHeader (exchangeOf barnText) (handedAt 1510 40 0xC0) refl refl refl;
   refresh-reply =
       let b = refreshFor refreshText [] in
       let handed = handedAt 1510 40 0xC0 in

@@ -11,6 +11,7 @@ use Rattle.octets.specs.Text.{bytes}
 use Rattle.octets.specs.Lists.{part, every, same, indexOf}
 use Rattle.octets.specs.Search.{count, firstOr, keep}
 use Rattle.encoding.specs.Base64.{base64Bytes}
+use Rattle.form_coding.specs.Coding.{decode}
 use Rattle.form.specs.Content.{Value, missing, once, repeated, formValue, onlyValue, isOnce}
 use Rattle.scope.specs.Set.{has}
 use Rattle.scope.specs.Value.{readScope}
@@ -100,10 +101,11 @@ askedOr repeated granted = granted
 
 -- ---- who calls
 
--- the id that a call presents: behind `Basic ` in the header, before the colon; where no header came, in the body
+-- the id that a call presents: in the header, behind `Basic ` and before the colon, coded as a value of a form; where none came, in
+-- the body
 unfoldable pub idIn : List ℕ → List ℕ → List ℕ
 idIn [] body = valueOf body (bytes "client_id")
-idIn (b ∷ bs) body = let pair = base64Bytes (drop 6 (b ∷ bs)) in take (indexOf 58 pair) pair
+idIn (b ∷ bs) body = let pair = base64Bytes (drop 6 (b ∷ bs)) in decode (take (indexOf 58 pair) pair)
 
 -- the number of the client that calls
 abbrev pub caller : List Client → List ℕ → List ℕ → ℕ

@@ -16,7 +16,7 @@ use borrow.Author.Tests.{eq-eqb, eqb-true}
 use lib.Dec.{eqb, lit<}
 use lib.ListN.{length, take, drop, getD, replicate, length-append, length-drop}
 use lib.Seq.{take-nil, take-suc, drop-cons, take-all, getD-drop, drop-drop, take-take, length-take-le, take-add, take-append-seam}
-use Rattle.octets.proofs.Booleans.{by-test}
+use Rattle.octets.proofs.Booleans.{by-test, and-left, and-right}
 use Rattle.octets.specs.Text.{padded}
 use Rattle.octets.specs.Lists.{part, Bytes, every, isZero, same}
 
@@ -121,6 +121,13 @@ tail-bytes b t h k = h (suc k)
 
 pub nil-bytes : Bytes []
 nil-bytes k = lit< tt
+
+-- each element passes a test that only bytes pass
+pub class-bytes : (p : ℕ → Bool) → ((b : ℕ) → p b ≡ true → b < 256) → (l : List ℕ) → every p l ≡ true → Bytes l
+unfolding every
+class-bytes p small [] e k = lit< tt
+class-bytes p small (x ∷ xs) e zero = small x (and-left (p x) (every p xs) e)
+class-bytes p small (x ∷ xs) e (suc k) = class-bytes p small xs (and-right (p x) (every p xs) e) k
 
 -- a list of one element again and again, bytes or not
 pub each-replicate : {A : Type 0} (P : A → Type 0) (a : A) (n k : ℕ) → P a → P (getD (replicate n a) k a)

@@ -41,7 +41,7 @@ use Rattle.protocol.proofs.TokenCases.{clients, registry, registry-fit,
 -- ---- calls
 
 -- the request of the RFC's section 4.4.2; the same for a scope; barnapp's, which is a public client
-abbrev forItself : List ℕ
+abbrev pub forItself : List ℕ
 forItself = bytes "grant_type=client_credentials"
 
 abbrev asking : String → List ℕ
@@ -50,12 +50,12 @@ asking scope = forItself ++ bytes "&scope=" ++ bytes scope
 abbrev barnAsks : List ℕ
 barnAsks = forItself ++ bytes "&client_id=barnapp"
 
--- headers: client 0's with a wrong secret (`gX1fBat3bW`), and client 2's
+-- headers: client 0's with a wrong secret (`gX1fBat3bW`), and client 2's (`mill%202:a%2Bb:%2541`)
 abbrev wrongSecret : List ℕ
 wrongSecret = bytes "Basic czZCaGRSa3F0MzpnWDFmQmF0M2JX"
 
 abbrev millBasic : List ℕ
-millBasic = bytes "Basic bWlsbCAyOmErYjolNDE="
+millBasic = bytes "Basic bWlsbCUyMDI6YSUyQmI6JTI1NDE="
 
 abbrev unauthorized : Said
 unauthorized = said 400 10 0 (bytes "{\"error\":\"unauthorized_client\"}")
@@ -65,7 +65,7 @@ abbrev ownToken : ℕ → ℕ → ℕ → Slot
 ownToken client t scope = slot 3 (handle 32) client 0 scope (t + 3600)
 
 -- a client is granted the scope with these names: client 0, its whole set, client 2
-abbrev grantsTo : ℕ → List ℕ → List ℕ → String → ℕ → Visit
+abbrev pub grantsTo : ℕ → List ℕ → List ℕ → String → ℕ → Visit
 grantsTo client header body names scope =
     call held 1599 twoHandles header body (accessAlone names) (at 1599 (heldBeside (ownToken client 1599 scope)))
 

@@ -5,6 +5,7 @@ pub mod Lengths
 pub mod AnswerNumbers
 pub mod EveryEndpoint
 pub mod StoreLength
+pub mod HeaderRoundTrip
 pub mod Cases
 pub mod StoreBytes
 pub mod UnfitCases
@@ -14,6 +15,7 @@ pub mod CheckCases
 pub mod TokenRows
 pub mod TokenCases
 pub mod CredentialsCases
+pub mod HeaderCases
 pub mod Starred
 pub mod Visit
 pub mod Table

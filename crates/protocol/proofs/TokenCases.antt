@@ -3,7 +3,7 @@
 -- Each case is a call from raw bytes and what the paper has for it: status, error number, challenge, the whole reply, and the
 -- store after (`Cases`). Where a test is about one clause, everything else about the call is right, so that a definition without
 -- the clause grants it; where two reasons apply, the case that comes next has the first of them mended. The cases of the
--- client_credentials grant are in `CredentialsCases`.
+-- client_credentials grant are in `CredentialsCases`, those of a header's two halves in `HeaderCases`.
 --
 -- In order: clients, slots and stores; answers; calls; the cases, by the paper's order of refusals; two limits that no call shows.
 -- Assumes nothing.
@@ -193,8 +193,9 @@ pub record Visit : Type 0 where
   said : Said
   after : ShortStore
 
-abbrev caseOf : Visit → Case
-caseOf v = record {
+-- the same as a case of a table over a registry
+abbrev pub caseOn : List ℕ → Visit → Case
+caseOn registry v = record {
   call = token (v .header) (v .body);
   registry = registry;
   store = v .store;
@@ -206,8 +207,8 @@ caseOf v = record {
   after = v .after;
 }
 
-abbrev pub row : (v : Visit) → agreesOn clients (caseOf v) ≡ true → Row
-row v agreed = rowOn (caseOf v) registry-fit clients registry-clients agreed
+abbrev pub row : (v : Visit) → agreesOn clients (caseOn registry v) ≡ true → Row
+row v agreed = rowOn (caseOn registry v) registry-fit clients registry-clients agreed
 
 abbrev pub call : ShortStore → ℕ → List ℕ → List ℕ → List ℕ → Said → ShortStore → Visit
 call store clock random header body paper after =
@@ -241,11 +242,11 @@ abbrev pub refreshing : List ℕ
 refreshing = bytes "grant_type=refresh_token&refresh_token=505152535455565758595a5b5c5d5e5f60616263"
 
 -- so long a body
-abbrev padded : ℕ → List ℕ → List ℕ
+abbrev pub padded : ℕ → List ℕ → List ℕ
 padded size body = body ++ bytes "&x=" ++ replicate (size - length body - 3) 97
 
 -- a body that says whether its client was let in, and no more
-abbrev ask : List ℕ
+abbrev pub ask : List ℕ
 ask = bytes "grant_type=x"
 
 -- a header that decodes to zeros and three colons
@@ -264,7 +265,7 @@ newRefresh = refresh code 1599 (handle 52)
 abbrev exchanged : ShortStore
 exchanged = heldWith newAccess unboundCode boundCode newRefresh
 
-abbrev exchanges : List ℕ → List ℕ → Visit
+abbrev pub exchanges : List ℕ → List ℕ → Visit
 exchanges header body = call held 1599 twoHandles header body (bothTokens "power peak bill") (at 1599 exchanged)
 
 -- barnapp's, of its code that is not bound
@@ -378,19 +379,20 @@ tokenCases =
     ∷ row (refuses (bytes "czZCaGRSa3F0MzpnWDFmQmF0M2JW") ask challenged) refl
     ∷ row (refuses (bytes "Basic ") ask challenged) refl
     ∷ row (refuses (bytes "B") ask challenged) refl
-    -- padded base64 with zero spare bits; unpadded, with spare bits, with a foreign byte, with a byte more
-    ∷ row (refuses (bytes "Basic bWlsbCAyOmErYjolNDE=") ask unsupported) refl
-    ∷ row (refuses (bytes "Basic bWlsbCAyOmErYjolNDE") ask challenged) refl
-    ∷ row (refuses (bytes "Basic bWlsbCAyOmErYjolNDF=") ask challenged) refl
-    ∷ row (refuses (bytes "Basic bWlsbCAyOmErYjolND-=") ask challenged) refl
+    -- padded base64 with zero spare bits (`mill%202:a%2Bb:%2541`); unpadded, with spare bits, with a foreign byte, with a byte more
+    ∷ row (refuses (bytes "Basic bWlsbCUyMDI6YSUyQmI6JTI1NDE=") ask unsupported) refl
+    ∷ row (refuses (bytes "Basic bWlsbCUyMDI6YSUyQmI6JTI1NDE") ask challenged) refl
+    ∷ row (refuses (bytes "Basic bWlsbCUyMDI6YSUyQmI6JTI1NDF=") ask challenged) refl
+    ∷ row (refuses (bytes "Basic bWlsbCUyMDI6YSUyQmI6JTI1ND-=") ask challenged) refl
     ∷ row (refuses (bytes "Basic czZCaGRSa3F0MzpnWDFmQmF0M2JW ") ask challenged) refl
     -- 512 bytes and 513: a known client's header is never so long (`bad-headers`)
     ∷ row (refuses (bytes "Basic " ++ replicate 506 65) ask challenged) refl
     ∷ row (refuses (bytes "Basic " ++ replicate 507 65) ask challenged) refl
-    -- no colon inside (`s6BhdRkqt3`); split at the first (`mill 2:a+b:%41`, above), and the halves taken as they stand
+    -- no colon inside (`s6BhdRkqt3`); split at the first (above), and no half ends at another (`mill%202:a%2Bb`)
     ∷ row (refuses (bytes "Basic czZCaGRSa3F0Mw==") ask challenged) refl
-    ∷ row (refuses (bytes "Basic bWlsbCAyOmErYg==") ask challenged) refl
-    ∷ row (refuses (bytes "Basic bWlsbCsyOmElMkJiJTNBJTI1NDE=") ask challenged) refl
+    ∷ row (refuses (bytes "Basic bWlsbCUyMDI6YSUyQmI=") ask challenged) refl
+    -- each half is decoded (more in `HeaderCases`): the id and the secret as they stand, `mill 2:a+b:%41`
+    ∷ row (refuses (bytes "Basic bWlsbCAyOmErYjolNDE=") ask challenged) refl
     -- no client_id at all, and one with no value
     ∷ row (refuses [] ask invalidClient) refl
     ∷ row (refuses [] (bytes "grant_type=x&client_id=") invalidClient) refl
@@ -415,7 +417,7 @@ tokenCases =
     ∷ row (refuses (bytes "Basic czZCaGRSa3F0MzpnWDFmQmF0M2I=") ask challenged) refl
     ∷ row (refuses (bytes "Basic czZCaGRSa3F0MzpnWDFmQmF0M2JWVg==") ask challenged) refl
     ∷ row (refuses (bytes "Basic czZCaGRSa3F0Mzo=") ask challenged) refl
-    ∷ row (refuses (bytes "Basic czZCaGRSa3F0MzphK2I6JTQx") ask challenged) refl
+    ∷ row (refuses (bytes "Basic czZCaGRSa3F0MzphJTJCYjolMjU0MQ==") ask challenged) refl
     -- and in the body
     ∷ row (refuses [] (bytes "grant_type=x&client_id=s6BhdRkqt3&client_secret=gX1fBat3bV") unsupported) refl
     ∷ row (refuses [] (bytes "grant_type=x&client_id=mill+2&client_secret=a%2Bb%3A%2541") unsupported) refl
@@ -611,5 +613,5 @@ tokenCases =
 -- a header over 512 bytes, and one that decodes to no colon, are bad in themselves: no call shows it, since no client of a registry
 -- has an id and a secret so long, nor an empty secret. Of 510 bytes, of 514, with no colon
 bad-headers : map isBadHeader (padding 500 ∷ padding 504 ∷ bytes "Basic czZCaGRSa3F0Mw==" ∷ []) ≡ false ∷ true ∷ true ∷ []
-unfolding isBadHeader credentials sameAnyCase lowerCase isBase64 base64Bytes groupBytes soundGroup sextet none any
+unfolding isBadHeader credentials sameAnyCase lowerCase isBase64 base64Bytes groupBytes soundGroup sextet none any indexOf wellFormed sound
 bad-headers = refl

@@ -60,7 +60,7 @@ fn split_name(piece: &[u8]) -> (&[u8], &[u8]) {
     }
 }
 
-/// The bytes that a name or value stands for.
+/// The bytes that one name or value stands for; `&` and `=` in it stand for themselves.
 pub fn decode(text: &[u8]) -> Result<Vec<u8>, Malformed> {
     let mut bytes = Vec::with_capacity(text.len());
     let mut rest = text.iter().copied();
@@ -118,6 +118,12 @@ mod tests {
             assert!(!text.contains(['&', '=']));
             assert_eq!(decode(text.as_bytes()).as_deref(), Ok(bytes));
         }
+    }
+
+    #[test]
+    fn a_value_by_itself_is_not_parted() {
+        assert_eq!(decode(b"a&b=c%26%3d;+:").as_deref(), Ok(&b"a&b=c&=; :"[..]));
+        assert_eq!(decode(b"&=%"), Err(Malformed));
     }
 
     #[test]

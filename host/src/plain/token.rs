@@ -1,7 +1,7 @@
 //! The token endpoint (RFC 6749 sections 2.3.1, 3.2, 4.1.3, 4.1.4, 4.4, 5 and 6).
 
 use super::base64;
-use super::form::{Field, Form};
+use super::form::{self, Field, Form};
 use super::handle::{self, Handle, HANDLE_SIZE};
 use super::registry::Registry;
 use super::scope::ScopeSet;
@@ -212,14 +212,20 @@ fn authenticate(header: &[u8], id: Option<&[u8]>, secret: Option<&[u8]>, registr
         let client = registry.find(id?)?;
         return (registry.client(client).secret == secret).then_some(client);
     }
-    let credentials = basic_credentials(header)?;
-    let colon = credentials.iter().position(|&byte| byte == b':')?;
-    let (header_id, header_secret) = (&credentials[..colon], &credentials[colon + 1..]);
+    let (header_id, header_secret) = header_credentials(header)?;
     if id.is_some_and(|id| id != header_id) {
         return None;
     }
-    let client = registry.find(header_id)?;
-    (registry.client(client).secret == Some(header_secret)).then_some(client)
+    let client = registry.find(&header_id)?;
+    (registry.client(client).secret == Some(&header_secret[..])).then_some(client)
+}
+
+/// The id and secret in the header: they part at the first colon, and were form-coded each by itself.
+fn header_credentials(header: &[u8]) -> Option<(Vec<u8>, Vec<u8>)> {
+    let credentials = basic_credentials(header)?;
+    let colon = credentials.iter().position(|&byte| byte == b':')?;
+    let (id, secret) = (&credentials[..colon], &credentials[colon + 1..]);
+    Some((form::decode(id).ok()?, form::decode(secret).ok()?))
 }
 
 /// What a header of the Basic scheme (RFC 7617) holds.

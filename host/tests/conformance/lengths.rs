@@ -6,6 +6,7 @@ use poplarchime_host::sample::{self, Client, Slot};
 
 use crate::support::compare::run_both;
 use crate::support::draft::{Action, Draft};
+use crate::support::writing;
 
 const NOW: u64 = 1000;
 const RANDOM: [u8; 40] = [0x5a; 40];
@@ -80,22 +81,24 @@ fn queries_and_bodies() {
 
 #[test]
 fn headers() {
-    // No header of 512 bytes or around admits anyone; the longest that does has 138.
+    // No header of 512 bytes or around admits anyone; the longest that does has 394.
     for action in Action::GRANTS {
         for length in (0..20).chain(500..530) {
             let mut draft = draft(action);
-            draft.authenticate_by_header(sample::basic_header(b"s6BhdRkqt3", &[b'x'; 400]));
-            draft.header.truncate(length);
+            let mut header = sample::basic_header(b"s6BhdRkqt3", &[b'x'; 400]);
+            header.truncate(length);
+            draft.authenticate_by_header(header);
             let none = length == 0;
             expect(&draft, if none { "401 invalid_client" } else { "401 invalid_client, challenge" });
         }
-        let longest = Client {
-            id: vec![b'i'; 32],
-            secret: Some(vec![b's'; 64]),
-            ..Client::public("", "https://long.example/", 1)
-        };
-        let draft = draft_of(action, &vec![longest].into());
-        assert_eq!(draft.header.len(), 138);
+        let (id, secret) = ([b'i'; 32], [b's'; 64]);
+        let longest =
+            Client { id: id.into(), secret: Some(secret.into()), ..Client::public("", "https://long.example/", 1) };
+        let mut draft = draft_of(action, &vec![longest].into());
+        assert_eq!(draft.header.written().len(), 138);
+        expect(&draft, "200");
+        draft.authenticate_by_header(writing::basic_header(&id, &secret, |text, _| writing::full(text)));
+        assert_eq!(draft.header.written().len(), 394);
         expect(&draft, "200");
     }
 }

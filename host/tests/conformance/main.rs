@@ -2,6 +2,7 @@
 
 mod support;
 
+mod basic_credentials;
 mod client_credentials;
 mod header;
 mod history;

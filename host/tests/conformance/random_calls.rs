@@ -7,6 +7,7 @@ use std::sync::atomic::{AtomicUsize, Ordering};
 
 use poplarchime_host::sample::{self, Client};
 
+use crate::support::call::{credentials_in, Request};
 use crate::support::compare::run_both;
 use crate::support::draft::Action;
 use crate::support::rng::Rng;
@@ -27,6 +28,8 @@ struct Counts {
     /// Calls without fault or damage, and how many of them were granted or live.
     sound: usize,
     granted: usize,
+    /// Calls that got tokens by a header whose credentials have a `%` or `+` in them.
+    by_coded_header: usize,
 }
 
 #[test]
@@ -60,6 +63,7 @@ fn both_programs_agree_on_random_calls() {
     assert_eq!(counts.outcomes.total(), SEQUENCES * CALLS);
     assert!(counts.carried >= 360_000, "too few calls carried the store along");
     assert!(counts.granted * 2 > counts.sound, "too few sound requests were granted");
+    assert!(counts.by_coded_header >= 50_000, "too few clients were admitted by form-coded credentials");
 }
 
 impl Counts {
@@ -69,11 +73,13 @@ impl Counts {
         self.carried += other.carried;
         self.sound += other.sound;
         self.granted += other.granted;
+        self.by_coded_header += other.by_coded_header;
     }
 
     fn print(&self) {
         println!("{} calls were handed the store as the last one left it", self.carried);
         println!("{} had nothing wrong put in, {} of them were granted or live", self.sound, self.granted);
+        println!("{} got tokens by credentials with a % or + in the header", self.by_coded_header);
     }
 }
 
@@ -114,6 +120,10 @@ fn one_call(world: &mut World, rng: &mut Rng, counts: &mut Counts) {
     if drawn.sound {
         counts.sound += 1;
         counts.granted += usize::from(["code", "200", "live"].contains(&&outcome[..]));
+    }
+    if let Request::Token { header, .. } = &drawn.call.request {
+        let coded = credentials_in(header).is_some_and(|held| held.contains(&b'%') || held.contains(&b'+'));
+        counts.by_coded_header += usize::from(coded && outcome == "200");
     }
     if drawn.store == world.store {
         counts.carried += 1;

@@ -98,14 +98,14 @@ fn a_header_counts_as_soon_as_it_is_not_empty() {
 }
 
 #[test]
-fn the_header_is_split_at_its_first_colon_and_taken_as_it_stands() {
+fn the_header_is_split_at_its_first_colon_and_then_decoded() {
     let client = Client::confidential("a+%41 b", ":p%40+:", "https://colon.example/", 1);
     let mut host = Host::new(&[client]);
     let body = "grant_type=x";
-    let header = sample::basic_header(b"a+%41 b", b":p%40+:");
-    assert_eq!(host.token(header, body, 1000, 0x20), bad_request("unsupported_grant_type"));
-    let decoded = sample::basic_header(b"a A b", b":p@ :");
-    assert_eq!(host.token(decoded, body, 1000, 0x20), unauthorized(true));
+    let coded = sample::basic_header(b"a%2B%2541+b", b":p%2540%2b%3A");
+    assert_eq!(host.token(coded, body, 1000, 0x20), bad_request("unsupported_grant_type"));
+    let as_it_stands = sample::basic_header(b"a+%41 b", b":p%40+:");
+    assert_eq!(host.token(as_it_stands, body, 1000, 0x20), unauthorized(true));
 }
 
 #[test]

@@ -12,12 +12,16 @@ use crate::support::tally::Tally;
 
 const NOW: u64 = 1100;
 
-/// The visit's clients, two whose credentials leave spare bits in base64, and one whose base64 has `+` and `/` in it.
+/// The visit's clients, two whose credentials leave spare bits in base64, one whose base64 has `+` and `/` in it, and
+/// one whose id and secret are as long as may be and full of what coding is about.
 fn clients() -> Arc<[Client]> {
     let mut clients = sample::visit_clients();
     clients.push(Client::confidential("kl", "c", "https://four.example/", 3));
     clients.push(Client::confidential("mno", "d", "https://five.example/?", 255));
     clients.push(Client::confidential("z", "~?~?", "https://six.example/", 12));
+    let odd = Client::public("", "https://seven.example/", 6);
+    let secret = b"a%b+c &=:%41%+:;secret of sixty-four bytes, some of them %3A odd";
+    clients.push(Client { id: b"an id + %41&=;of thirty-two by%s".into(), secret: Some(secret.into()), ..odd });
     clients.into()
 }
 
@@ -27,10 +31,10 @@ fn store() -> Vec<u8> {
     sample::set_latest(&mut store, 1000);
     let old = Slot { kind: sample::ACCESS, handle: [0xee; 20], client: 0, farm: 1, scope: 1, expiry: NOW };
     sample::set_slot(&mut store, 2, old);
-    for client in 0..5 {
+    for client in 0..6 {
         for kind in [sample::CODE, sample::BOUND_CODE, sample::ACCESS, sample::REFRESH] {
             let handle = std::array::from_fn(|at| client * 40 + kind * 8 + at as u8);
-            let scope = [9, 1, 1, 170, 8][usize::from(client)];
+            let scope = [9, 1, 1, 170, 8, 4][usize::from(client)];
             sample::set_slot(
                 &mut store,
                 place(client, kind),
@@ -64,10 +68,11 @@ fn sound_drafts(action: Action) -> Vec<Draft> {
             token(2, sample::CODE),
             token(3, sample::BOUND_CODE),
             token(4, sample::CODE),
+            token(5, sample::BOUND_CODE),
         ],
-        Action::Refresh => (0..5).map(|client| token(client, sample::REFRESH)).collect(),
+        Action::Refresh => (0..6).map(|client| token(client, sample::REFRESH)).collect(),
         Action::ClientCredentials => {
-            [0, 2, 3, 4].map(|client| Draft::client_credentials(&clients, &store, NOW, client, random)).into()
+            [0, 2, 3, 4, 5].map(|client| Draft::client_credentials(&clients, &store, NOW, client, random)).into()
         }
         Action::Check => {
             (0..5).map(|client| Draft::check(&clients, &store, NOW, place(client, sample::ACCESS))).collect()
@@ -156,5 +161,5 @@ fn the_first_reason_counts() {
         }
     }
     println!("{pairs} pairs of reasons");
-    assert!(pairs > 250_000, "only {pairs} pairs");
+    assert!(pairs > 400_000, "only {pairs} pairs");
 }

@@ -3,6 +3,7 @@
 use std::fmt;
 
 use poplarchime_host::answers::{Authorization, CheckAnswer, ErrorWord, TokenReply};
+use poplarchime_host::plain::base64;
 
 /// What the outside asks.
 #[derive(Clone, Debug)]
@@ -10,6 +11,11 @@ pub enum Request {
     Authorize { query: Vec<u8>, decision: u64, farm: u32 },
     Token { header: Vec<u8>, body: Vec<u8> },
     Check { token: Vec<u8> },
+}
+
+/// The credentials that a header of the Basic scheme holds, still form-coded.
+pub fn credentials_in(header: &[u8]) -> Option<Vec<u8>> {
+    header.get("Basic ".len()..).and_then(base64::decode)
 }
 
 /// A request with what the host hands along, but for the store.

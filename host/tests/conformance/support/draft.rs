@@ -6,6 +6,7 @@ use poplarchime_host::sample::{self, Client, Slot};
 
 use super::call::{Call, Request};
 use super::rng::Rng;
+use super::writing;
 
 /// What a request is about. Exchange, refresh and client credentials are the grants of the token endpoint.
 #[derive(Clone, Copy, Debug, PartialEq, Eq)]
@@ -111,6 +112,51 @@ impl Params {
     }
 }
 
+/// The value of the Authorization field.
+#[derive(Clone, Debug)]
+pub enum Header {
+    /// As it stands; no bytes when none comes.
+    Raw(Vec<u8>),
+    /// Of the Basic scheme; id and secret are not yet form-coded.
+    Basic { id: Vec<u8>, secret: Vec<u8> },
+}
+
+impl Header {
+    pub const NONE: Header = Header::Raw(Vec::new());
+
+    pub fn basic(id: &[u8], secret: &[u8]) -> Header {
+        Header::Basic { id: id.into(), secret: secret.into() }
+    }
+
+    pub fn comes(&self) -> bool {
+        !matches!(self, Header::Raw(bytes) if bytes.is_empty())
+    }
+
+    /// Written as a client library would.
+    pub fn written(&self) -> Vec<u8> {
+        match self {
+            Header::Raw(bytes) => bytes.clone(),
+            Header::Basic { id, secret } => writing::basic_header(id, secret, |text, _| writing::usual(text)),
+        }
+    }
+
+    /// Written in one of the many other ways that mean the same.
+    pub fn in_any_writing(&self, rng: &mut Rng) -> Vec<u8> {
+        match self {
+            Header::Raw(bytes) => bytes.clone(),
+            Header::Basic { id, secret } => {
+                writing::basic_header(id, secret, |text, escaped| writing::any(text, escaped, rng))
+            }
+        }
+    }
+}
+
+impl<T: Into<Vec<u8>>> From<T> for Header {
+    fn from(bytes: T) -> Header {
+        Header::Raw(bytes.into())
+    }
+}
+
 #[derive(Clone, Debug)]
 pub struct Draft {
     pub action: Action,
@@ -127,7 +173,7 @@ pub struct Draft {
     pub padded_to: usize,
     pub decision: u64,
     pub farm: u32,
-    pub header: Vec<u8>,
+    pub header: Header,
     pub token: Vec<u8>,
     pub registry: Vec<u8>,
     pub store: Vec<u8>,
@@ -148,7 +194,7 @@ impl Draft {
             padded_to: 0,
             decision: 1,
             farm: 7,
-            header: Vec::new(),
+            header: Header::NONE,
             token: Vec::new(),
             registry: sample::registry(clients),
             store: store.to_vec(),
@@ -248,19 +294,19 @@ impl Draft {
         self.client = client;
         let asking = self.clients[client].clone();
         match &asking.secret {
-            Some(secret) => self.authenticate_by_header(sample::basic_header(&asking.id, secret)),
+            Some(secret) => self.authenticate_by_header(Header::basic(&asking.id, secret)),
             None => self.authenticate_in_body(&asking.id, None),
         }
     }
 
-    pub fn authenticate_by_header(&mut self, header: impl Into<Vec<u8>>) {
+    pub fn authenticate_by_header(&mut self, header: impl Into<Header>) {
         self.header = header.into();
         self.params.remove("client_id");
         self.params.remove("client_secret");
     }
 
     pub fn authenticate_in_body(&mut self, id: &[u8], secret: Option<&[u8]>) {
-        self.header.clear();
+        self.header = Header::NONE;
         self.params.set("client_id", id);
         match secret {
             Some(secret) => self.params.set("client_secret", secret),
@@ -278,27 +324,27 @@ impl Draft {
         (0..self.clients.len()).filter(|&client| self.clients[client].secret.is_none()).collect()
     }
 
-    /// Registers the client that asks as a public one.
-    pub fn make_public(&mut self) {
+    /// Registers the client that asks with another secret, or as a public one.
+    pub fn register(&mut self, secret: Option<&[u8]>) {
         let mut clients = self.clients.to_vec();
-        clients[self.client].secret = None;
+        clients[self.client].secret = secret.map(<[u8]>::to_vec);
         self.clients = clients.into();
         self.registry = sample::registry(&self.clients);
         self.authenticate(self.client);
     }
 
-    /// The call, its form written as a client library would.
+    /// The call, its form and header written as a client library would.
     pub fn call(&self) -> Call {
-        let pieces = self.params.0.iter().map(|(name, value)| [usual_writing(name), usual_writing(value)].join(&b'='));
-        self.finish(pieces.collect())
+        let write = |(name, value): &(Vec<u8>, Vec<u8>)| [writing::usual(name), writing::usual(value)].join(&b'=');
+        self.finish(self.params.0.iter().map(write).collect(), self.header.written())
     }
 
-    /// The call, its form written in one of the many other ways that mean the same.
+    /// The call, its form and header written in one of the many other ways that mean the same.
     pub fn call_in_any_writing(&self, rng: &mut Rng) -> Call {
         let mut pieces = Vec::new();
         for (name, value) in &self.params.0 {
-            let name = any_writing(name, rng, b"&%+=");
-            pieces.push([name, any_writing(value, rng, b"&%+")].join(&b'='));
+            let name = writing::any(name, writing::IN_NAME, rng);
+            pieces.push([name, writing::any(value, writing::IN_VALUE, rng)].join(&b'='));
         }
         for _ in 0..rng.pick(&[0, 0, 1, 3]) {
             let meaningless =
@@ -306,10 +352,10 @@ impl Draft {
             pieces.push(rng.pick(&meaningless).into());
         }
         rng.shuffle(&mut pieces);
-        self.finish(pieces)
+        self.finish(pieces, self.header.in_any_writing(rng))
     }
 
-    fn finish(&self, mut pieces: Vec<Vec<u8>>) -> Call {
+    fn finish(&self, mut pieces: Vec<Vec<u8>>, header: Vec<u8>) -> Call {
         if !self.raw_piece.is_empty() {
             pieces.push(self.raw_piece.clone());
         }
@@ -320,9 +366,7 @@ impl Draft {
         }
         let request = match self.action {
             Action::Authorize => Request::Authorize { query: form, decision: self.decision, farm: self.farm },
-            Action::Exchange | Action::Refresh | Action::ClientCredentials => {
-                Request::Token { header: self.header.clone(), body: form }
-            }
+            Action::Exchange | Action::Refresh | Action::ClientCredentials => Request::Token { header, body: form },
             Action::Check => Request::Check { token: self.token.clone() },
         };
         Call {
@@ -333,38 +377,4 @@ impl Draft {
             output: self.output,
         }
     }
-}
-
-fn usual_writing(bytes: &[u8]) -> Vec<u8> {
-    let written = bytes.iter().map(|&byte| match byte {
-        b' ' => "+".into(),
-        _ if byte.is_ascii_alphanumeric() || b"-._".contains(&byte) => char::from(byte).to_string(),
-        _ => format!("%{byte:02X}"),
-    });
-    written.collect::<String>().into_bytes()
-}
-
-fn any_writing(bytes: &[u8], rng: &mut Rng, escaped: &[u8]) -> Vec<u8> {
-    let share = rng.pick(&[0, 0, 10, 50, 100]);
-    let mut text = Vec::new();
-    for &byte in bytes {
-        match byte {
-            b' ' if rng.chance(50) => text.push(b'+'),
-            _ if escaped.contains(&byte) || rng.chance(share) => {
-                let digits = format!("{byte:02x}");
-                text.push(b'%');
-                text.extend(digits.bytes().map(
-                    |digit| {
-                        if rng.chance(50) {
-                            digit.to_ascii_uppercase()
-                        } else {
-                            digit
-                        }
-                    },
-                ));
-            }
-            _ => text.push(byte),
-        }
-    }
-    text
 }

@@ -1,4 +1,5 @@
-//! What the tests share: calls as data, both programs side by side, requests to spoil, and counts of outcomes.
+//! What the tests share: calls as data, both programs side by side, requests to write and to spoil, and counts of
+//! outcomes.
 
 pub mod call;
 pub mod compare;
@@ -8,3 +9,4 @@ pub mod host;
 pub mod rng;
 pub mod tally;
 pub mod world;
+pub mod writing;

@@ -3,9 +3,10 @@
 
 use std::sync::Arc;
 
+use poplarchime_host::plain::form;
 use poplarchime_host::sample::{self, Client, Slot};
 
-use super::call::{Call, Request};
+use super::call::{credentials_in, Call, Request};
 use super::compare::After;
 use super::draft::{Action, Draft};
 use super::faults::{faults, give_scope, Fault, Step};
@@ -13,6 +14,11 @@ use super::rng::Rng;
 use super::tally::Tally;
 
 const CLOCK_LIMIT: u64 = 1 << 40;
+
+// What damage is done to a call.
+const DAMAGED: &str = "damaged bytes";
+const DAMAGED_CREDENTIALS: &str = "damaged credentials";
+const UNCODED: &str = "credentials as they stand";
 
 /// What a store is like at the start of a sequence.
 #[derive(Clone, Copy, Debug, PartialEq, Eq)]
@@ -149,8 +155,8 @@ impl World {
         let mut call = draft.call_in_any_writing(rng);
         let damaged = rng.chance(8);
         if damaged {
-            damage(&mut call.request, rng);
-            reasons.add(format!("{}: damaged bytes", action.name()));
+            let what = damage(&mut call.request, rng);
+            reasons.add(format!("{}: {what}", action.name()));
         }
         Drawn { action, call, store: draft.store, sound: sound && !damaged }
     }
@@ -180,7 +186,10 @@ impl World {
         let mut reasons = Vec::new();
         for action in Action::ALL {
             reasons.extend(faults(action).iter().map(|fault| format!("{}: {}", action.name(), fault.reason)));
-            reasons.push(format!("{}: damaged bytes", action.name()));
+            reasons.push(format!("{}: {DAMAGED}", action.name()));
+        }
+        for action in Action::GRANTS {
+            reasons.extend([DAMAGED_CREDENTIALS, UNCODED].map(|what| format!("{}: {what}", action.name())));
         }
         for action in Action::ISSUING {
             reasons.push(format!("{}: made again", action.name()));
@@ -325,8 +334,15 @@ fn choose_step(faults: &[Fault], rng: &mut Rng) -> Step {
     rng.pick(&steps)
 }
 
-/// Changes, drops, inserts or repeats a few bytes of what the outside sent.
-fn damage(request: &mut Request, rng: &mut Rng) {
+/// Damages what the outside sent: the credentials in a header before base64, or any bytes. Says which.
+fn damage(request: &mut Request, rng: &mut Rng) -> &'static str {
+    if let Request::Token { header, .. } = request {
+        if let Some(credentials) = credentials_in(header).filter(|_| rng.chance(40)) {
+            let (credentials, what) = damage_credentials(credentials, rng);
+            *header = sample::basic_header_of(&credentials);
+            return what;
+        }
+    }
     let bytes = match request {
         Request::Authorize { query, .. } => query,
         Request::Token { header, body } => match rng.chance(50) {
@@ -335,6 +351,23 @@ fn damage(request: &mut Request, rng: &mut Rng) {
         },
         Request::Check { token } => token,
     };
+    damage_bytes(bytes, rng);
+    DAMAGED
+}
+
+/// Damages credentials, or takes the coding off them, so that they are sent as they stand.
+fn damage_credentials(mut credentials: Vec<u8>, rng: &mut Rng) -> (Vec<u8>, &'static str) {
+    match form::decode(&credentials) {
+        Ok(uncoded) if rng.chance(30) => (uncoded, UNCODED),
+        _ => {
+            damage_bytes(&mut credentials, rng);
+            (credentials, DAMAGED_CREDENTIALS)
+        }
+    }
+}
+
+/// Changes, drops, inserts or repeats a few bytes.
+fn damage_bytes(bytes: &mut Vec<u8>, rng: &mut Rng) {
     for _ in 0..rng.between(1, 3) {
         let at = rng.below(bytes.len() + 1);
         let byte = rng.pick(b"&&==%%++ 09afAF:z\0\x7f\xff");
@@ -368,15 +401,11 @@ pub fn random_clients(count: usize, rng: &mut Rng) -> Vec<Client> {
     clients
 }
 
-/// Of one of the lengths, bytes from the lowest to 7e but for one.
-fn random_text(rng: &mut Rng, lengths: &[usize], lowest: usize, without: u8) -> Vec<u8> {
-    let mut text = Vec::new();
-    let length = rng.pick(lengths);
-    while text.len() < length {
-        let byte = rng.between(lowest, 0x7e) as u8;
-        if byte != without {
-            text.push(byte);
-        }
+/// Of one of the lengths, bytes from the lowest to 7e but for one. Some texts have only such as coding is about.
+fn random_text(rng: &mut Rng, lengths: &[usize], lowest: u8, without: u8) -> Vec<u8> {
+    let mut allowed: Vec<u8> = (lowest..=0x7e).filter(|&byte| byte != without).collect();
+    if rng.chance(30) {
+        allowed.retain(|byte| b" +%&=:;24afAF".contains(byte));
     }
-    text
+    (0..rng.pick(lengths)).map(|_| rng.pick(&allowed)).collect()
 }

@@ -3,10 +3,11 @@
 use poplarchime_host::sample;
 
 use super::room::fill;
-use super::texts::{cut, longer, other_end, repeat};
+use super::texts::{cut, inside, longer, other_end, repeat};
 use super::Apply;
-use crate::support::draft::Draft;
+use crate::support::draft::{Draft, Header};
 use crate::support::rng::Rng;
+use crate::support::writing;
 
 pub const BODY: &[(&str, Apply)] = &[
     ("grant_type twice", |d, _| repeat(d, "grant_type")),
@@ -24,7 +25,7 @@ pub const BODY: &[(&str, Apply)] = &[
     ("empty grant_type", |d, _| d.params.set("grant_type", "")),
     ("header and client_secret", |d, _| {
         let secret = d.asking().secret.clone().unwrap_or(b"x".into());
-        d.header = sample::basic_header(&d.asking().id, &secret);
+        d.header = Header::basic(&d.asking().id, &secret);
         d.params.set("client_secret", secret);
     }),
     ("header over 512 bytes and client_secret", |d, _| {
@@ -35,13 +36,17 @@ pub const BODY: &[(&str, Apply)] = &[
         d.header = b" ".into();
         d.params.set("client_secret", "x");
     }),
+    ("header with a malformed half and client_secret", |d, _| {
+        d.header = sample::basic_header(&writing::usual(&d.asking().id), b"100%").into();
+        d.params.set("client_secret", "x");
+    }),
 ];
 
 pub const AUTHENTICATION: &[(&str, Apply)] = &[
     // The header's shape.
     ("header over 512 bytes", |d, _| {
         let id = d.asking().id.clone();
-        d.authenticate_by_header(sample::basic_header(&id, &[b'x'; 400]));
+        d.authenticate_by_header(Header::basic(&id, &[b'x'; 400]));
     }),
     ("header of one space", |d, _| d.authenticate_by_header(" ")),
     ("header without credentials", |d, _| d.authenticate_by_header("Basic ")),
@@ -82,48 +87,71 @@ pub const AUTHENTICATION: &[(&str, Apply)] = &[
     }),
     // What the header holds.
     ("no colon in the header", |d, _| {
-        let asking = d.asking();
-        let whole = [&asking.id[..], asking.secret.as_deref().unwrap_or_default()].concat();
-        d.authenticate_by_header(format!("Basic {}", sample::base64(&whole)));
+        let (id, secret) = credentials(d);
+        d.authenticate_by_header(sample::basic_header_of(&[writing::usual(&id), writing::usual(&secret)].concat()));
+    }),
+    ("escaped colon in the place of the colon", |d, _| {
+        let (id, secret) = credentials(d);
+        let contents = [writing::usual(&id), writing::usual(&secret)].join(&b"%3A"[..]);
+        d.authenticate_by_header(sample::basic_header_of(&contents));
     }),
     ("empty id in the header", |d, _| show(d, |_| Vec::new(), |secret| secret)),
     ("unknown id in the header", |d, _| show(d, |_| b"nobody".into(), |secret| secret)),
     ("id cut in the header", |d, _| show(d, |id| cut(&id), |secret| secret)),
     ("id longer in the header", |d, _| show(d, |id| longer(&id), |secret| secret)),
+    ("id with a zero byte behind it", |d, _| show(d, |id| [&id[..], b"\0"].concat(), |secret| secret)),
+    ("id with a colon behind it", |d, _| show(d, |id| [&id[..], b":"].concat(), |secret| secret)),
     ("no secret in the header", |d, _| show(d, |id| id, |_| Vec::new())),
     ("secret cut in the header", |d, _| show(d, |id| id, |secret| cut(&secret))),
     ("secret longer in the header", |d, _| show(d, |id| id, |secret| longer(&secret))),
     ("secret with a zero byte behind it", |d, _| show(d, |id| id, |secret| [&secret[..], b"\0"].concat())),
     ("secret with a colon before it", |d, _| show(d, |id| id, |secret| [b":", &secret[..]].concat())),
     ("secret with another last byte", |d, _| show(d, |id| id, |secret| other_end(&secret))),
-    ("id and secret form-encoded", |d, _| show(d, |id| percent(&id), |secret| percent(&secret))),
+    ("id and secret form-coded twice", |d, _| show(d, |id| writing::full(&id), |secret| writing::full(&secret))),
     ("secret of another client", |d, _| {
         let own = d.asking().secret.clone();
         let other =
             d.clients.iter().filter_map(|client| client.secret.clone()).find(|secret| Some(secret) != own.as_ref());
         let id = d.asking().id.clone();
-        d.authenticate_by_header(sample::basic_header(&id, &other.unwrap_or(b"wrong".into())));
+        d.authenticate_by_header(Header::basic(&id, &other.unwrap_or(b"wrong".into())));
     }),
     ("public client with a header", |d, rng| public_header(d, rng, b"")),
     ("public client with a secret in the header", |d, rng| public_header(d, rng, b"secret")),
-    // Header and body.
-    ("another id in the body", |d, _| {
-        let asking = d.asking().clone();
-        d.authenticate_by_header(sample::basic_header(&asking.id, asking.secret.as_deref().unwrap_or_default()));
-        d.params.set("client_id", "other");
+    // How the halves are coded.
+    ("bad % before the id", |d, _| show_halves(d, |id| [b"%zz", &id[..]].concat(), |secret| secret)),
+    ("bad % in the id", |d, _| show_halves(d, |id| inside(&id, b"%4g"), |secret| secret)),
+    ("% behind the id", |d, _| show_halves(d, |id| [&id[..], b"%"].concat(), |secret| secret)),
+    ("% with one digit behind the id", |d, _| show_halves(d, |id| [&id[..], b"%4"].concat(), |secret| secret)),
+    ("bad % before the secret", |d, _| show_halves(d, |id| id, |secret| [b"%g4", &secret[..]].concat())),
+    ("bad % in the secret", |d, _| show_halves(d, |id| id, |secret| inside(&secret, b"%+1"))),
+    ("% behind the secret", |d, _| show_halves(d, |id| id, |secret| [&secret[..], b"%"].concat())),
+    ("% with one digit behind the secret", |d, _| show_halves(d, |id| id, |secret| [&secret[..], b"%4"].concat())),
+    ("& behind the id", |d, _| show_halves(d, |id| [&id[..], b"&"].concat(), |secret| secret)),
+    ("secret behind a name", |d, _| show_halves(d, |id| id, |secret| [b"client_secret=", &secret[..]].concat())),
+    ("secret a+b as it stands", |d, _| show_as_it_stands(d, b"a+b")),
+    ("secret a%b as it stands", |d, _| show_as_it_stands(d, b"a%b")),
+    ("secret a%41 as it stands", |d, _| show_as_it_stands(d, b"a%41")),
+    ("any secret with a + or % as it stands", |d, rng| {
+        // With a `%` it is malformed or becomes shorter, with a `+` alone it becomes another.
+        let mut secret: Vec<u8> = (0..rng.between(0, 63)).map(|_| rng.between(0x20, 0x7e) as u8).collect();
+        secret.insert(rng.below(secret.len() + 1), rng.pick(b"+%"));
+        show_as_it_stands(d, &secret);
     }),
-    ("id cut in the body", |d, _| {
-        let asking = d.asking().clone();
-        d.authenticate_by_header(sample::basic_header(&asking.id, asking.secret.as_deref().unwrap_or_default()));
-        d.params.set("client_id", longer(&asking.id));
+    // Header and body.
+    ("another id in the body", |d, _| show_beside(d, |_| b"other".into())),
+    ("id longer in the body", |d, _| show_beside(d, longer)),
+    ("id in the body as the header has it", |d, _| {
+        let (id, secret) = credentials(d);
+        d.authenticate_by_header(writing::basic_header(&id, &secret, |text, _| writing::full(text)));
+        d.params.set("client_id", writing::full(&id));
     }),
     // The body alone.
     ("no client_id at all", |d, _| {
-        d.header.clear();
+        d.header = Header::NONE;
         d.params.remove("client_id");
     }),
     ("client_secret without client_id", |d, _| {
-        d.header.clear();
+        d.header = Header::NONE;
         d.params.remove("client_id");
         d.params.set("client_secret", "gX1fBat3bV");
     }),
@@ -135,11 +163,17 @@ pub const AUTHENTICATION: &[(&str, Apply)] = &[
     ("client_id of 33 bytes in the body", |d, _| d.authenticate_in_body(&[b'a'; 33], None)),
 ];
 
-/// A header with the right credentials in another shape.
+/// Id and secret of the client that asks. A public one has no right secret; any header of it must fail.
+fn credentials(draft: &Draft) -> (Vec<u8>, Vec<u8>) {
+    let asking = draft.asking().clone();
+    (asking.id, asking.secret.unwrap_or(b"none".into()))
+}
+
+/// A header with the right credentials in another shape. Little is escaped, so that base64 has all its digits.
 fn reshape(draft: &mut Draft, shape: fn(&str) -> String) {
-    let asking = draft.asking();
-    let credentials = [&asking.id[..], b":", asking.secret.as_deref().unwrap_or_default()].concat();
-    draft.authenticate_by_header(shape(&sample::base64(&credentials)));
+    let (id, secret) = credentials(draft);
+    let header = String::from_utf8(writing::basic_header(&id, &secret, writing::sparse)).expect("base64");
+    draft.authenticate_by_header(shape(header.trim_start_matches("Basic ")));
 }
 
 /// Sets a spare bit of the last digit; without spare bits, puts a digit too many.
@@ -167,12 +201,29 @@ fn swap(encoded: &str, digit: char, other: char) -> String {
     }
 }
 
-/// A header with id and secret changed on the way.
+/// A header with id and secret changed before they are coded.
 fn show(draft: &mut Draft, id: fn(Vec<u8>) -> Vec<u8>, secret: fn(Vec<u8>) -> Vec<u8>) {
-    let asking = draft.asking().clone();
-    // The right secret of a public client does not exist; any header of it must fail.
-    let right = asking.secret.unwrap_or(b"none".into());
-    draft.authenticate_by_header(sample::basic_header(&id(asking.id), &secret(right)));
+    let (own_id, own_secret) = credentials(draft);
+    draft.authenticate_by_header(Header::basic(&id(own_id), &secret(own_secret)));
+}
+
+/// A header with id and secret changed after they are coded.
+fn show_halves(draft: &mut Draft, id: fn(Vec<u8>) -> Vec<u8>, secret: fn(Vec<u8>) -> Vec<u8>) {
+    let (own_id, own_secret) = credentials(draft);
+    let (id, secret) = (id(writing::usual(&own_id)), secret(writing::usual(&own_secret)));
+    draft.authenticate_by_header(sample::basic_header(&id, &secret));
+}
+
+/// Registers this secret, which coding would change, and shows it without coding it.
+fn show_as_it_stands(draft: &mut Draft, secret: &[u8]) {
+    draft.register(Some(secret));
+    draft.authenticate_by_header(sample::basic_header(&writing::usual(&draft.asking().id), secret));
+}
+
+/// The right header, and an id in the body.
+fn show_beside(draft: &mut Draft, id: fn(&[u8]) -> Vec<u8>) {
+    show(draft, |id| id, |secret| secret);
+    draft.params.set("client_id", id(&draft.asking().id));
 }
 
 fn show_in_body(draft: &mut Draft, secret: fn(Vec<u8>) -> Vec<u8>) {
@@ -183,27 +234,41 @@ fn show_in_body(draft: &mut Draft, secret: fn(Vec<u8>) -> Vec<u8>) {
     }
 }
 
-fn percent(text: &[u8]) -> Vec<u8> {
-    text.iter().flat_map(|byte| format!("%{byte:02X}").into_bytes()).collect()
-}
-
 fn public_header(draft: &mut Draft, rng: &mut Rng, secret: &[u8]) {
     let public = draft.public_clients();
     if public.is_empty() {
-        return draft.authenticate_by_header(sample::basic_header(b"nobody", secret));
+        return draft.authenticate_by_header(Header::basic(b"nobody", secret));
     }
     draft.client = rng.pick(&public);
     let id = draft.asking().id.clone();
-    draft.authenticate_by_header(sample::basic_header(&id, secret));
+    draft.authenticate_by_header(Header::basic(&id, secret));
+}
+
+/// The right header in another writing. A public client has none.
+fn rewrite(draft: &mut Draft, write: impl FnMut(&[u8], &[u8]) -> Vec<u8>) {
+    if draft.asking().secret.is_some() {
+        let (id, secret) = credentials(draft);
+        draft.authenticate_by_header(writing::basic_header(&id, &secret, write));
+    }
 }
 
 pub const HARMLESS_TOKEN: &[(&str, Apply)] = &[
     ("scheme in any case", |d, rng| {
-        for letter in d.header.iter_mut().take(5) {
+        let mut header = d.header.in_any_writing(rng);
+        for letter in header.iter_mut().take(5) {
             if rng.chance(50) {
                 *letter ^= 0x20;
             }
         }
+        d.header = header.into();
+    }),
+    ("id and secret escaped in full", |d, _| rewrite(d, |text, _| writing::full(text))),
+    ("id and secret escaped in full, with small digits", |d, _| rewrite(d, |text, _| writing::full_small(text))),
+    ("id and secret escaped no more than they must be", |d, _| rewrite(d, writing::sparse)),
+    ("id and secret escaped here and there", |d, rng| rewrite(d, |text, escaped| writing::any(text, escaped, rng))),
+    ("client_id next to a header that is escaped in full", |d, _| {
+        rewrite(d, |text, _| writing::full(text));
+        d.params.set("client_id", d.asking().id.clone());
     }),
     ("client_id next to the header", |d, _| d.params.set("client_id", d.asking().id.clone())),
     ("credentials in the body", |d, _| {

@@ -35,10 +35,10 @@ fn spoil_grant_type(draft: &mut Draft, spoil: fn(&[u8]) -> Vec<u8>) {
 /// Client credentials are for clients that have a secret.
 pub const PUBLIC_CLIENT: &[(&str, Apply)] = &[
     ("a public client", |d, rng| match &d.public_clients()[..] {
-        [] => d.make_public(),
+        [] => d.register(None),
         public => d.authenticate(rng.pick(public)),
     }),
-    ("a client that is registered as public now", |d, _| d.make_public()),
+    ("a client that is registered as public now", |d, _| d.register(None)),
 ];
 
 pub const PRESENTED: &[(&str, Apply)] = &[

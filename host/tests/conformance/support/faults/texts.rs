@@ -24,6 +24,12 @@ pub fn longer(text: &[u8]) -> Vec<u8> {
     [text, b"x"].concat()
 }
 
+/// With a text put into its middle.
+pub fn inside(text: &[u8], put: &[u8]) -> Vec<u8> {
+    let (front, end) = text.split_at(text.len() / 2);
+    [front, put, end].concat()
+}
+
 pub fn other_end(text: &[u8]) -> Vec<u8> {
     let mut text = text.to_vec();
     *text.last_mut().expect("a text that is not empty") ^= 1;
