@@ -1,6 +1,6 @@
 /*
- * A host in C that plays the papers' visit from end to end: two apps ask for a farm's readings. Then a server asks for
- * its own, and an app has a secret that must be coded before it is sent.
+ * A host in C that plays the papers' visit from end to end: two apps ask for a farm's readings. Then a thief and an app
+ * show the same code, a server asks for its own readings, and an app has a secret that must be coded before it is sent.
  *
  * It shows each request and answer, and holds each answer to what the papers say. The last line is
  * 'N passed, M failed', and the exit status is 0 only if M is 0. `examples/run` builds and runs it.
@@ -226,12 +226,14 @@ static void is_not_live(struct host *host, const char *token, uint64_t clock)
 #define ACCESS "202122232425262728292a2b2c2d2e2f30313233"
 #define REFRESH "3435363738393a3b3c3d3e3f4041424344454647"
 #define LATER_ACCESS "505152535455565758595a5b5c5d5e5f60616263"
+#define NEXT_CODE "606162636465666768696a6b6c6d6e6f70717273"
 #define EXCHANGE_OF(code) \
     "grant_type=authorization_code&code=" code "&redirect_uri=https%3A%2F%2Fclient%2Eexample%2Ecom%2Fcb"
 #define EXCHANGE EXCHANGE_OF(CODE)
-#define TOKENS_FOR(scope) \
-    "{\"access_token\":\"" ACCESS "\",\"token_type\":\"Bearer\",\"expires_in\":3600," \
-    "\"refresh_token\":\"" REFRESH "\",\"scope\":\"" scope "\"}"
+#define TOKENS(access, refresh, scope) \
+    "{\"access_token\":\"" access "\",\"token_type\":\"Bearer\",\"expires_in\":3600," \
+    "\"refresh_token\":\"" refresh "\",\"scope\":\"" scope "\"}"
+#define TOKENS_FOR(scope) TOKENS(ACCESS, REFRESH, scope)
 /* The reply where no refresh token is issued. */
 #define ONE_TOKEN(access, scope) \
     "{\"access_token\":\"" access "\",\"token_type\":\"Bearer\",\"expires_in\":3600,\"scope\":\"" scope "\"}"
@@ -253,8 +255,6 @@ static void confidential_client(struct host *host)
     replies(host, BASIC, "grant_type=refresh_token&refresh_token=" REFRESH "&scope=bill+power", 1300, 0x50, 200, 0,
             ONE_TOKEN(LATER_ACCESS, "power bill"));
     is_live(host, LATER_ACCESS, 1300, 0, 9, 3600);
-    title("Somebody shows the code again");
-    replies(host, BASIC, EXCHANGE, 1300, 0x80, 400, 0, INVALID_GRANT);
     title("The access token runs out after an hour; a clock that goes back does not revive it");
     is_live(host, ACCESS, 4699, 0, 11, 1);
     is_not_live(host, ACCESS, 4700);
@@ -275,29 +275,66 @@ static void time_that_never_goes_back(struct host *host)
     replies(host, BASIC, EXCHANGE, 1100, 0x20, 400, 0, INVALID_GRANT);
     title("A code issued next, with the clock at 1100, lives until 2200: 600 from the highest clock seen");
     redirects(host, QUERY, POPLARCHIME_ALLOW, 1100, 0x60, POPLARCHIME_NO_ERROR,
-              "https://client.example.com/cb?code=606162636465666768696a6b6c6d6e6f70717273&state=xyz");
+              "https://client.example.com/cb?code=" NEXT_CODE "&state=xyz");
     copy = *host;
-    replies(&copy, BASIC, EXCHANGE_OF("606162636465666768696a6b6c6d6e6f70717273"), 2199, 0x20, 200, 0,
-            TOKENS_FOR("power peak bill"));
-    replies(host, BASIC, EXCHANGE_OF("606162636465666768696a6b6c6d6e6f70717273"), 2200, 0x20, 400, 0, INVALID_GRANT);
+    replies(&copy, BASIC, EXCHANGE_OF(NEXT_CODE), 2199, 0x20, 200, 0, TOKENS_FOR("power peak bill"));
+    replies(host, BASIC, EXCHANGE_OF(NEXT_CODE), 2200, 0x20, 400, 0, INVALID_GRANT);
 }
+
+#define BARN_QUERY "response_type=code&client_id=barnapp"
+#define BARN_EXCHANGE_OF(code) "grant_type=authorization_code&code=" code "&client_id=barnapp"
+#define BARN_EXCHANGE BARN_EXCHANGE_OF(CODE)
 
 static void public_client(struct host *host)
 {
     start(host);
     title("The public client has no secret; its redirect has a query already");
-    redirects(host, "response_type=code&client_id=barnapp", POPLARCHIME_DENY, 1000, 0x00, POPLARCHIME_ACCESS_DENIED,
+    redirects(host, BARN_QUERY, POPLARCHIME_DENY, 1000, 0x00, POPLARCHIME_ACCESS_DENIED,
               "https://barn.example/r?x=1&error=access_denied");
-    redirects(host, "response_type=code&client_id=barnapp", POPLARCHIME_ALLOW, 1000, 0x00, POPLARCHIME_NO_ERROR,
+    redirects(host, BARN_QUERY, POPLARCHIME_ALLOW, 1000, 0x00, POPLARCHIME_NO_ERROR,
               "https://barn.example/r?x=1&code=" CODE);
     title("Another client cannot exchange its code, and the try spends nothing");
     replies(host, BASIC, "grant_type=authorization_code&code=" CODE, 1000, 0x20, 400, 0, INVALID_GRANT);
     title("A header is not for public clients");
     replies(host, "Basic YmFybmFwcDo=", "grant_type=authorization_code&code=" CODE, 1000, 0x20, 401, 1, INVALID_CLIENT);
     title("It names itself in the body");
-    replies(host, "", "grant_type=authorization_code&code=" CODE "&client_id=barnapp", 1000, 0x20, 200, 0,
-            TOKENS_FOR("power"));
+    replies(host, "", BARN_EXCHANGE, 1000, 0x20, 200, 0, TOKENS_FOR("power"));
     is_live(host, ACCESS, 1000, 1, 1, 3600);
+}
+
+#define BARN_REFRESH "grant_type=refresh_token&refresh_token=" REFRESH "&client_id=barnapp"
+#define NEXT_ACCESS "808182838485868788898a8b8c8d8e8f90919293"
+#define NEXT_REFRESH "9495969798999a9b9c9d9e9fa0a1a2a3a4a5a6a7"
+
+static void code_shown_twice(struct host *host)
+{
+    start(host);
+    title("The owner allows the public client, and a thief catches the code on its way");
+    redirects(host, BARN_QUERY, POPLARCHIME_ALLOW, 1000, 0x00, POPLARCHIME_NO_ERROR,
+              "https://barn.example/r?x=1&code=" CODE);
+    title("The thief is first: anybody can name a public client, so he gets its tokens, and refreshes at once");
+    replies(host, "", BARN_EXCHANGE, 1001, 0x20, 200, 0, TOKENS_FOR("power"));
+    replies(host, "", BARN_REFRESH, 1001, 0x50, 200, 0, ONE_TOKEN(LATER_ACCESS, "power"));
+    is_live(host, ACCESS, 1001, 1, 1, 3600);
+    is_live(host, LATER_ACCESS, 1001, 1, 1, 3600);
+    title("Another client shows the code, which is not its own: it is refused, and nothing else happens");
+    replies(host, BASIC, "grant_type=authorization_code&code=" CODE, 1002, 0x80, 400, 0, INVALID_GRANT);
+    is_live(host, ACCESS, 1002, 1, 1, 3599);
+    title("The owner's app shows the code and is refused: the code is spent. Somebody else has it, so it has leaked ...");
+    struct host copy = *host;
+    replies(host, "", BARN_EXCHANGE, 1003, 0x80, 400, 0, INVALID_GRANT);
+    title("... and every token that came from it is dead: at the check, and for another refresh");
+    is_not_live(host, ACCESS, 1003);
+    is_not_live(host, LATER_ACCESS, 1003);
+    replies(host, "", BARN_REFRESH, 1003, 0x80, 400, 0, INVALID_GRANT);
+    title("The app asks the owner again, and the new code is good");
+    redirects(host, BARN_QUERY, POPLARCHIME_ALLOW, 1010, 0x60, POPLARCHIME_NO_ERROR,
+              "https://barn.example/r?x=1&code=" NEXT_CODE);
+    replies(host, "", BARN_EXCHANGE_OF(NEXT_CODE), 1010, 0x80, 200, 0, TOKENS(NEXT_ACCESS, NEXT_REFRESH, "power"));
+    is_live(host, NEXT_ACCESS, 1010, 1, 1, 3600);
+    title("At 1600 the code would have run out, and from then on showing it does nothing (on a copy of the store)");
+    replies(&copy, "", BARN_EXCHANGE, 1600, 0x80, 400, 0, INVALID_GRANT);
+    is_live(&copy, ACCESS, 1600, 1, 1, 3001);
 }
 
 /* Base64 of `grainpool:wheat4barley`. */
@@ -393,6 +430,9 @@ static void bad_hosts(struct host *host)
             poplarchime_check(NULL, 0, host->registry, host->registry_length, host->store, sizeof host->store / 2,
                               1000).refusal,
             POPLARCHIME_REFUSED_STORE);
+    refuses("a store from before version 0.4.0, of 17,928 bytes",
+            poplarchime_check(NULL, 0, host->registry, host->registry_length, host->store, 17928, 1000).refusal,
+            POPLARCHIME_REFUSED_STORE);
     refuses("a clock beyond 2^40",
             poplarchime_check(NULL, 0, host->registry, host->registry_length, host->store, sizeof host->store,
                               POPLARCHIME_CLOCK_LIMIT + 1).refusal,
@@ -408,6 +448,7 @@ int main(void)
     confidential_client(&host);
     time_that_never_goes_back(&host);
     public_client(&host);
+    code_shown_twice(&host);
     client_for_itself(&host);
     secret_with_a_percent_sign(&host);
     bad_requests(&host);

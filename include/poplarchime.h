@@ -9,8 +9,9 @@
  * What the host must do (docs/HOST.md says more):
  *
  *   - One call at a time for each token store. The functions do no locking.
- *   - Keep the store, byte for byte, before the reply leaves the machine. Hand each call the store as the last call
- *     left it. A store from a backup brings spent codes back to life.
+ *   - Keep the store, byte for byte, before any reply leaves the machine, a refusal too: it may have withdrawn tokens.
+ *     Hand each call the store as the last call left it. A store from a backup brings spent codes and withdrawn tokens
+ *     back to life.
  *   - The clock is a count of seconds that does not depend on the time zone, as time(NULL). It may stand still or go
  *     back: the store remembers the highest clock seen, and that one counts.
  *   - Fresh random bytes for every call, from a generator fit for secrets, as getrandom(2). They become codes and tokens.
@@ -28,7 +29,7 @@
  * The version of this interface and of the archive that goes with it. Where the second number moves, a host may have to
  * change: docs/changes/ says what moved.
  */
-#define POPLARCHIME_VERSION "0.3.0"
+#define POPLARCHIME_VERSION "0.4.0"
 
 #ifdef __cplusplus
 extern "C" {
@@ -36,10 +37,13 @@ extern "C" {
 
 /* ---- Sizes, in bytes unless they say otherwise ---- */
 
-/* The token store: a time of 8, then the slots. A fresh store is all zero. */
-#define POPLARCHIME_STORE_SIZE 17928
+/*
+ * The token store: a time of 8, then the slots. A fresh store is all zero. A store from before version 0.4.0 has another
+ * size and is refused: start from a fresh one.
+ */
+#define POPLARCHIME_STORE_SIZE 28168
 #define POPLARCHIME_STORE_SLOTS 512
-#define POPLARCHIME_SLOT_SIZE 35
+#define POPLARCHIME_SLOT_SIZE 55
 
 /*
  * The client registry: 1 to 64 records, one after the other and nothing behind the last one. A client's number is its
@@ -168,7 +172,8 @@ struct poplarchime_token_reply {
 
 /*
  * refusal 2 to 4: answer 500, log it; nothing changed.
- * live 0:         unknown or run out. The resource server answers 401, `WWW-Authenticate: Bearer error="invalid_token"`.
+ * live 0:         unknown, run out or withdrawn. The resource server answers 401,
+ *                 `WWW-Authenticate: Bearer error="invalid_token"`.
  * live 1:         whose token it is, for which farm and scope, and for how long. Test farm and scope before serving.
  */
 struct poplarchime_check_answer {
@@ -202,6 +207,9 @@ struct poplarchime_authorization poplarchime_authorize(
  * the value of the Authorization field, of length 0 when there was none; in it the client has form-coded its id and its
  * secret before base64 (RFC 6749 section 2.3.1), so that a secret `a%b` comes as `a%25b`. `body` is the form in the
  * request's body. `output` receives the reply's body.
+ *
+ * A code that was exchanged has leaked when its client shows it again before it would have run out (section 4.1.2): the
+ * answer is `invalid_grant`, and every token that came from the code, by a refresh too, is withdrawn.
  */
 struct poplarchime_token_reply poplarchime_token(
     const uint8_t *header, size_t header_length,

@@ -64,9 +64,11 @@ pub fn crowd(clients: usize) -> Vec<Client> {
     (0..clients).map(client).collect()
 }
 
-pub const STORE_SIZE: usize = 17_928;
+pub const STORE_SIZE: usize = 28_168;
 pub const SLOTS: usize = 512;
-const SLOT_SIZE: usize = 35;
+pub const SLOT_SIZE: usize = 55;
+/// Where the origin begins in a slot.
+pub const ORIGIN: usize = 35;
 
 // The kinds of a slot.
 pub const FREE: u8 = 0;
@@ -74,6 +76,11 @@ pub const CODE: u8 = 1;
 pub const BOUND_CODE: u8 = 2;
 pub const ACCESS: u8 = 3;
 pub const REFRESH: u8 = 4;
+pub const SPENT: u8 = 5;
+/// The kinds of a slot in use.
+pub const KINDS: [u8; 5] = [CODE, BOUND_CODE, ACCESS, REFRESH, SPENT];
+/// Those that hold zeros where the others hold an origin.
+pub const CODES: [u8; 3] = [CODE, BOUND_CODE, SPENT];
 
 /// What a slot holds. A free one holds nothing but zeros.
 #[derive(Clone, Copy, Debug, Default, PartialEq, Eq)]
@@ -84,9 +91,26 @@ pub struct Slot {
     pub farm: u32,
     pub scope: u8,
     pub expiry: u64,
+    /// The code that a token came from; zeros in a code.
+    pub origin: [u8; 20],
 }
 
 impl Slot {
+    /// A slot of client 0 for farm 1 and the scope `power`, without an origin.
+    pub fn of(kind: u8, handle: [u8; 20], expiry: u64) -> Slot {
+        Slot { kind, handle, client: 0, farm: 1, scope: 1, expiry, origin: [0; 20] }
+    }
+
+    /// The same as a slot of another kind: a code loses its origin.
+    pub fn turned(self, kind: u8) -> Slot {
+        let origin = if CODES.contains(&kind) { [0; 20] } else { self.origin };
+        Slot { kind, origin, ..self }
+    }
+
+    pub fn is_token(&self) -> bool {
+        self.kind == ACCESS || self.kind == REFRESH
+    }
+
     pub fn is_live(&self, now: u64) -> bool {
         self.kind != FREE && now < self.expiry
     }
@@ -117,7 +141,8 @@ pub fn slot(store: &[u8], number: usize) -> Slot {
         client: bytes[21],
         farm: u32::from_be_bytes(bytes[22..26].try_into().expect("four bytes")),
         scope: bytes[26],
-        expiry: u64::from_be_bytes(bytes[27..35].try_into().expect("eight bytes")),
+        expiry: u64::from_be_bytes(bytes[27..ORIGIN].try_into().expect("eight bytes")),
+        origin: bytes[ORIGIN..].try_into().expect("twenty bytes"),
     }
 }
 
@@ -128,7 +153,8 @@ pub fn set_slot(store: &mut [u8], number: usize, slot: Slot) {
     bytes[21] = slot.client;
     bytes[22..26].copy_from_slice(&slot.farm.to_be_bytes());
     bytes[26] = slot.scope;
-    bytes[27..35].copy_from_slice(&slot.expiry.to_be_bytes());
+    bytes[27..ORIGIN].copy_from_slice(&slot.expiry.to_be_bytes());
+    bytes[ORIGIN..].copy_from_slice(&slot.origin);
 }
 
 pub fn slots(store: &[u8]) -> impl Iterator<Item = Slot> + '_ {
@@ -186,10 +212,10 @@ mod tests {
     #[test]
     fn a_slot_reads_back() {
         let mut store = empty_store();
-        let entry = Slot { kind: ACCESS, handle: [7; 20], client: 1, farm: 2, scope: 3, expiry: 4 };
+        let entry = Slot { kind: ACCESS, handle: [7; 20], client: 1, farm: 2, scope: 3, expiry: 4, origin: [5; 20] };
         set_slot(&mut store, 511, entry);
         assert_eq!(slot(&store, 511), entry);
-        assert_eq!(store.iter().filter(|&&byte| byte != 0).count(), 1 + 20 + 4);
+        assert_eq!(store.iter().filter(|&&byte| byte != 0).count(), 1 + 20 + 4 + 20);
     }
 
     #[test]

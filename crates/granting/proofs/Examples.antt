@@ -1,5 +1,5 @@
--- Examples of the definitions, by computation: requests on a store of three slots that are granted or refused, each for one
--- reason, and the slots that an exchange leaves.
+-- Examples of the definitions, by computation: requests on a store of some slots that are granted or refused, each for one
+-- reason, and the slots that a grant and a refusal leave.
 -- Assumes nothing.
 use Prim.Native.Nat.{ℕ}
 use mathlib.Core.Path.{_≡_, refl}
@@ -9,8 +9,8 @@ use lib.ListN.{replicate}
 use Rattle.octets.specs.Lists.{same}
 use Rattle.encoding.specs.declared.HandleText.{HandleText}
 use Rattle.token_store.specs.Layout.{handleSize}
-use Rattle.octets.specs.Search.{count, any, firstOr, replaceFirst}
-use Rattle.token_store.specs.Store.{kindCode, kindBoundCode, kindAccess, kindRefresh, freeSlot}
+use Rattle.octets.specs.Search.{count, any, firstOr, replaceFirst, replaceAll}
+use Rattle.token_store.specs.Store.{kindCode, kindBoundCode, kindAccess, kindRefresh, kindSpent, noOrigin, freeSlot, spentCode}
 use Rattle.token_store.specs.declared.Slot.{Slot}
 use Rattle.protocol.specs.declared.ErrorWord.the-variants.{InvalidGrant, InvalidScope, TemporarilyUnavailable, ServerError}
 use Rattle.protocol.specs.declared.Refusal.the-variants.{Redirect, Token, Failed}
@@ -32,15 +32,26 @@ handle x = replicate handleSize x
 abbrev shown : ℕ → HandleText
 shown x = record { valid = true; bytes = handle x }
 
--- a free slot, a bound code of client 0 that runs out at 1600, and a refresh token of client 0; both hold the scope set 11
+-- of client 0, for farm 5 and the scope set 11: a slot of a kind, with a handle, until some time, from the code of a handle
+abbrev slot : ℕ → ℕ → ℕ → List ℕ → Slot
+slot kind x expiry origin = record { kind = kind; handle = handle x; client = 0; farm = 5; scope = 11; expiry = expiry; origin = origin }
+
+-- a bound code that runs out at 1600, and a refresh token
 abbrev code : Slot
-code = record { kind = kindBoundCode; handle = handle 7; client = 0; farm = 5; scope = 11; expiry = 1600 }
+code = slot kindBoundCode 7 1600 noOrigin
 
 abbrev token : Slot
-token = record { kind = kindRefresh; handle = handle 8; client = 0; farm = 5; scope = 11; expiry = 9000 }
+token = slot kindRefresh 8 9000 (handle 6)
 
 abbrev slots : List Slot
-slots = freeSlot ∷ code ∷ token ∷ []
+slots = freeSlot ∷ code ∷ token ∷ freeSlot ∷ []
+
+-- a spent code with its tokens, one of which has run out, and another's; and without the tokens
+abbrev exchanged : List Slot
+exchanged = slot kindSpent 6 1600 noOrigin ∷ slot kindAccess 5 900 (handle 6) ∷ token ∷ slot kindAccess 4 9000 (handle 7) ∷ []
+
+abbrev cleared : List Slot
+cleared = slot kindSpent 6 1600 noOrigin ∷ freeSlot ∷ freeSlot ∷ slot kindAccess 4 9000 (handle 7) ∷ []
 
 -- a code for farm 5 and the scope set 11, and what presents a code or a refresh token
 abbrev authorize : Bool → Reading
@@ -79,16 +90,20 @@ cases =
     ∷ case 1000 slots (handle 8) (authorize true) (refusedWith (Redirect ServerError))
     ∷ case 1000 slots [] (refusedReading (Token InvalidScope)) (refusedWith (Token InvalidScope))
     ∷ case 1599 slots (random 1 2) (exchange 0 7 true) (grantedWith 11 true)
-    -- run out; another client; the redirect address not repeated; a refresh token as a code
+    -- run out; another client; the redirect address not repeated; a refresh token as a code; a spent code
     ∷ case 1600 slots (random 1 2) (exchange 0 7 true) (refusedWith (Token InvalidGrant))
     ∷ case 1000 slots (random 1 2) (exchange 1 7 true) (refusedWith (Token InvalidGrant))
     ∷ case 1000 slots (random 1 2) (exchange 0 7 false) (refusedWith (Token InvalidGrant))
     ∷ case 1000 slots (random 1 2) (exchange 0 8 true) (refusedWith (Token InvalidGrant))
-    -- only its own slot is left; its own handle, a second handle that is in use, and two that are equal
-    ∷ case 1000 (code ∷ token ∷ []) (random 1 2) (exchange 0 7 true) (refusedWith (Failed NoRoom))
+    ∷ case 1000 exchanged (random 1 2) (exchange 0 6 true) (refusedWith (Token InvalidGrant))
+    -- one slot besides its own; its own handle, a second handle that is in use, and two that are equal
+    ∷ case 1000 (freeSlot ∷ code ∷ token ∷ []) (random 1 2) (exchange 0 7 true) (refusedWith (Failed NoRoom))
     ∷ case 1000 slots (random 7 2) (exchange 0 7 true) (refusedWith (Failed Clash))
     ∷ case 1000 slots (random 1 8) (exchange 0 7 true) (refusedWith (Failed Clash))
     ∷ case 1000 slots (random 1 1) (exchange 0 7 true) (refusedWith (Failed Clash))
+    -- an origin is no handle, a spent code's is one
+    ∷ case 1000 slots (random 6 2) (exchange 0 7 true) (grantedWith 11 true)
+    ∷ case 1000 (spentCode code ∷ slots) (random 7 2) itself (refusedWith (Failed Clash))
     -- a refresh for the whole set, for less, for more, and for a value that is no scope
     ∷ case 1000 slots (random 1 2) (refresh 0 8 Everything) (grantedWith 11 false)
     ∷ case 1000 slots (random 1 2) (refresh 0 8 (Only 9)) (grantedWith 9 false)
@@ -114,27 +129,59 @@ unfolding grantedBy firstOf planFor refusedPlan codePlan exchangePlan refreshPla
 cases-hold = refl
 
 -- a code is bound where redirect_uri was given
-pub code-leaves : slotsAfter (planOf 1000 slots (handle 1) (authorize false))
-    ≡ record { kind = kindCode; handle = handle 1; client = 0; farm = 5; scope = 11; expiry = 1600 } ∷ code ∷ token ∷ []
+pub code-leaves : slotsAfter (planOf 1000 slots (handle 1) (authorize false)) ≡ slot kindCode 1 1600 noOrigin ∷ code ∷ token ∷ freeSlot ∷ []
 unfolding slotsBy firstOf planFor codePlan count any firstOr replaceFirst same freeSlot
 code-leaves = refl
 
--- the access token takes the lowest slot and the refresh token the next, which was the code's
+-- the code stays as spent; the access token takes the lowest slot and the refresh token the next, both from that code
 pub exchange-leaves : slotsAfter (planOf 1000 slots (random 1 2) (exchange 0 7 true))
-    ≡ record { kind = kindAccess; handle = handle 1; client = 0; farm = 5; scope = 11; expiry = 4600 }
-    ∷ record { kind = kindRefresh; handle = handle 2; client = 0; farm = 5; scope = 11; expiry = 2593000 }
-    ∷ token
-    ∷ []
+    ≡ slot kindAccess 1 4600 (handle 7) ∷ slot kindSpent 7 1600 noOrigin ∷ token ∷ slot kindRefresh 2 2593000 (handle 7) ∷ []
 unfolding slotsBy firstOf planFor exchangePlan count any firstOr replaceFirst same freeSlot
 exchange-leaves = refl
 
--- a client's token for itself is an access token for farm 0
+-- an access token on a refresh token comes from the code that this one came from
+pub refresh-leaves : slotsAfter (planOf 1000 slots (random 1 2) (refresh 0 8 Everything))
+    ≡ slot kindAccess 1 4600 (handle 6) ∷ code ∷ token ∷ freeSlot ∷ []
+unfolding slotsBy firstOf planFor refreshPlan fits scopeGiven count any firstOr replaceFirst same freeSlot
+refresh-leaves = refl
+
+-- a client's token for itself is an access token for farm 0, and comes from itself
 pub itself-leaves : slotsAfter (planOf 1000 slots (random 1 2) itself)
-    ≡ record { kind = kindAccess; handle = handle 1; client = 0; farm = 0; scope = 9; expiry = 4600 } ∷ code ∷ token ∷ []
+    ≡ record { kind = kindAccess; handle = handle 1; client = 0; farm = 0; scope = 9; expiry = 4600; origin = handle 1 }
+    ∷ code
+    ∷ token
+    ∷ freeSlot
+    ∷ []
 unfolding slotsBy firstOf planFor credentialsPlan count any firstOr replaceFirst same freeSlot
 itself-leaves = refl
 
--- a refused try keeps the code
-pub refusal-keeps : slotsAfter (planOf 1000 slots (random 1 2) (exchange 1 7 true)) ≡ slots
-unfolding slotsBy firstOf planFor exchangePlan count any firstOr replaceFirst same freeSlot
-refusal-keeps = refl
+-- ---- what a refused exchange leaves, one case a row: the slots, or without the tokens of a code that is shown again
+
+pub record Refusal : Type 0 where
+  pub t : ℕ
+  pub slots : List Slot
+  pub reading : Reading
+  pub left : List Slot
+
+abbrev refusal : ℕ → List Slot → Reading → List Slot → Refusal
+refusal t slots reading left = record { t = t; slots = slots; reading = reading; left = left }
+
+abbrev refusals : List Refusal
+refusals =
+    -- another client's try of a code that is not spent
+    refusal 1000 slots (exchange 1 7 true) slots
+    -- a spent code is shown again: no redirect address is asked for; at its expiry, and by another client, it clears nothing
+    ∷ refusal 1599 exchanged (exchange 0 6 false) cleared
+    ∷ refusal 1600 exchanged (exchange 0 6 false) exchanged
+    ∷ refusal 1000 exchanged (exchange 1 6 false) exchanged
+    -- an unspent code has its handle, and has run out
+    ∷ refusal 1000 (slot kindCode 6 600 noOrigin ∷ exchanged) (exchange 0 6 false) (slot kindCode 6 600 noOrigin ∷ exchanged)
+    -- a lower spent code of its handle has run out
+    ∷ refusal 1000 (slot kindSpent 6 600 noOrigin ∷ exchanged) (exchange 0 6 false) (slot kindSpent 6 600 noOrigin ∷ exchanged)
+    -- a spent code of zeros clears no code
+    ∷ refusal 1000 (slot kindSpent 0 1600 noOrigin ∷ slots) (exchange 0 0 false) (slot kindSpent 0 1600 noOrigin ∷ slots)
+    ∷ []
+
+pub refusals-hold : map (λ c. slotsAfter (planOf (c .t) (c .slots) (random 1 2) (c .reading))) refusals ≡ map (λ c. c .left) refusals
+unfolding slotsBy firstOf planFor exchangePlan count any firstOr replaceFirst replaceAll same freeSlot
+refusals-hold = refl

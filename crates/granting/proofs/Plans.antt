@@ -1,34 +1,32 @@
 -- Laws of the steps of a grant, and of what follows from a plan (protocol's Granting.antt).
 --
--- In order: what the search for the client's own code or token says; room besides the slot of a live code; the two kinds of a
--- code; what follows from a plan's reasons, where one applies, where none does, and where others are passed before them.
+-- In order: what the search for the client's own code or token says; what a refused exchange leaves; the two kinds of a code; what
+-- follows from a plan's reasons, where one applies, where none does, and where others are passed before them.
 --
 -- Not here: how a list of reasons ends (protocol's `Reasons`).
 -- Assumes nothing.
 use mathlib.Core.Path.{_≡_, refl, sym, ap, _∙_}
-use mathlib.Core.Bool.{Bool, true, false, cond, _&&_}
+use mathlib.Core.Bool.{Bool, true, false, cond, and-false}
 use mathlib.Core.List.{List, _++_}
-use Prim.Native.Nat.{ℕ, suc, _≤_}
+use Prim.Native.Nat.{ℕ, _≤_}
 use native.Mathlib.Omega.{arith}
-use lib.Dec.{eqb, leb, lit≤, leb·suc-suc}
+use lib.Dec.{lit≤}
 use lib.ListN.{drop}
-use Rattle.octets.specs.Search.{bit, any, indexWhere}
-use Rattle.octets.proofs.Booleans.{and-left}
-use Rattle.octets.proofs.Counting.{count-replaceFirst}
+use Rattle.octets.specs.Search.{indexWhere, any}
 use Rattle.encoding.specs.declared.HandleText.{HandleText}
-use Rattle.token_store.specs.Store.{Store, withSlots, kindCode, kindBoundCode, kindLast, freeSlot, isLive, isVacant, soughtKey, foundAt, decode}
+use Rattle.token_store.specs.Store.{Store, withSlots, kindCode, kindBoundCode, kindLast, soughtKey, withoutTokens, foundAt, decode}
 use Rattle.token_store.specs.declared.Slot.{Slot}
 use Rattle.token_store.specs.declared.Sought.{Sought}
-use Rattle.token_store.specs.declared.Sought.the-variants.{Code as soughtCode}
+use Rattle.token_store.specs.declared.Sought.the-variants.{Code as soughtCode, Spent as soughtSpent}
 use Rattle.token_store.specs.declared.Found.{Found}
 use Rattle.token_store.specs.declared.Found.the-variants.{At, Nothing}
-use Rattle.token_store.proofs.Slots.{free-dead, free-vacant}
+use Rattle.token_store.proofs.Slots.{free-dead}
 use Rattle.token_store.proofs.Scans.{First as FirstSlot, found-first, found-none}
 use Rattle.protocol.specs.declared.Refusal.{Refusal}
 use Rattle.protocol.specs.declared.Decision.{Decision}
 use Rattle.protocol.specs.declared.Decision.the-variants.{Grant, Refuse}
 use Rattle.protocol.specs.Refusals.{Reason}
-use Rattle.protocol.specs.Granting.{Plan, afterReasons, decisionOn, slotsBy, shownSlot, isOwn, room, withoutCode}
+use Rattle.protocol.specs.Granting.{Plan, afterReasons, decisionOn, slotsBy, shownSlot, isOwn, refusedSlots}
 use Rattle.protocol.proofs.Reasons.{First, first-counts}
 use Rattle.granting.specs.declared.Granted.{Granted}
 use Rattle.granting.specs.Granted.{refusedWith, grantedWith, grantedBy, Follows, ownAt}
@@ -65,20 +63,18 @@ module _ (t client : ℕ) (sought : Sought) (presented : HandleText) (b : List �
       by true o e = none-own (sym e)
       by false o e = o
 
--- ---- room: a live code's slot is not counted, and once it is cleared it is
+-- ---- what a refused exchange leaves: the slots, where an unspent code has the handle, or no spent one is the client's own
 
-pub room-without : {t client i : ℕ} {presented : HandleText} {slots : List Slot} → Own t client soughtCode presented slots i
-    → leb 2 (room t (withoutCode presented slots)) ≡ leb 1 (room t slots)
-room-without {t} {client} {i} {presented} {slots} o =
-    let key : Slot → Bool = soughtKey soughtCode presented in
-    let code : Slot = shownSlot soughtCode presented slots in
-    let live : isLive t code ≡ true = and-left (isLive t code) (eqb (code .client) client) (o .own) in
-    let was : (any key slots && isVacant t code) ≡ false = rw (o .first .some, live) in
-    let is : (any key slots && isVacant t freeSlot) ≡ true = rw (o .first .some, free-vacant t) in
-    let more : room t (withoutCode presented slots) ≡ suc (room t slots) =
-    omega (arith, count-replaceFirst (isVacant t) key freeSlot freeSlot slots, ap bit was, ap bit is)
-    in
-    ap (leb 2) more ∙ leb·suc-suc 1 (room t slots)
+module _ (t client : ℕ) (presented : HandleText) (slots : List Slot) where
+  pub found-keeps : any (soughtKey soughtCode presented) slots ≡ true → slots ≡ refusedSlots t client presented slots
+  found-keeps e = rw e
+
+  pub unowned-keeps : isOwn t client (shownSlot soughtSpent presented slots) ≡ false → slots ≡ refusedSlots t client presented slots
+  unowned-keeps e = rw (e, and-false)
+
+  pub again-clears : any (soughtKey soughtCode presented) slots ≡ false → isOwn t client (shownSlot soughtSpent presented slots) ≡ true
+      → withoutTokens (presented .bytes) slots ≡ refusedSlots t client presented slots
+  again-clears e o = rw (e, o)
 
 -- ---- the two kinds of a code are kinds
 
@@ -93,9 +89,10 @@ abbrev pub Past : ℕ → Plan → Decision → Type 0
 Past n plan d = First (drop n (plan .reasons)) d → First (plan .reasons) d
 
 module _ {plan : Plan} {before : Store} {r : Granted} where
-  pub refuses : {x : Refusal} → First (plan .reasons) (Refuse x) → r ≡ refusedWith x → before .slots ≡ plan .denied → Follows plan before r before
+  pub refuses : {x : Refusal} {after : Store} → First (plan .reasons) (Refuse x) → r ≡ refusedWith x → after ≡ withSlots before (plan .denied)
+      → Follows plan before r after
   unfolding grantedBy slotsBy
-  refuses f a e = record { answer = rw (first-counts f) a; store = rw (first-counts f) (ap (withSlots before) e) }
+  refuses f a e = record { answer = rw (first-counts f) a; store = rw (first-counts f) e }
 
   pub grants : {after : Store} → First (plan .reasons) Grant → r ≡ grantedWith (plan .scope) (plan .bringsRefresh)
       → after ≡ withSlots before (plan .granted)

@@ -54,7 +54,8 @@ abbrev pub ownAt : ℕ → ℕ → Sought → HandleText → List Slot → Found
 ownAt t client sought presented slots =
     cond (isOwn t client (shownSlot sought presented slots)) (foundAt (indexWhere (soughtKey sought presented) slots)) Nothing
 
--- the slots after an access and a refresh token are issued on a code that is cleared
+-- the slots after an access and a refresh token are issued on a code
 abbrev pub spentOn : ℕ → List ℕ → List ℕ → Slot → List Slot → List Slot
 spentOn t first second code slots =
-    issue t (tokenOn code t kindRefresh second (code .scope)) (issue t (tokenOn code t kindAccess first (code .scope)) slots)
+    issue t (tokenOn code (code .handle) t kindRefresh second (code .scope))
+    (issue t (tokenOn code (code .handle) t kindAccess first (code .scope)) slots)

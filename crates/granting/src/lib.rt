@@ -1,7 +1,8 @@
 // granting: what the store grants to a request that is read and admitted, and what that leaves in its slots.
 //
 // A grant decides first and changes the store only once nothing is left to refuse: a request that is refused spends
-// nothing. It takes the call's time t, which no clock moves back, and never a clock.
+// nothing. One refusal changes the store: a code that is shown again withdraws the tokens that came from it. Time is the
+// call's time t, which no clock moves back, and never a clock.
 use encoding::HandleText;
 use protocol::CodeRequest;
 use protocol::CredentialsRequest;
@@ -22,14 +23,15 @@ use token_store::layout::KIND_ACCESS;
 use token_store::layout::KIND_BOUND_CODE;
 use token_store::layout::KIND_CODE;
 use token_store::layout::KIND_REFRESH;
+use token_store::layout::KIND_SPENT;
 ghost use mathlib.Core.Path.{_≡_};
 ghost use mathlib.Core.Bool.{cond};
 ghost use Prim.Native.Nat.{_+_, _<_, _≤_};
 ghost use lib.ListN.{length, set};
 ghost use Rattle.token_store.specs.Layout.{storeSize, slotCount, latestTime};
-ghost use Rattle.token_store.specs.Store.{decode, withSlots, freeSlot, kindCode, kindBoundCode, kindLast, lifetimeOf};
+ghost use Rattle.token_store.specs.Store.{decode, withSlots, spentCode, kindCode, kindBoundCode, kindLast, lifetimeOf};
 ghost use Rattle.protocol.specs.Limits.{codeRandom, tokenRandom};
-ghost use Rattle.protocol.specs.Granting.{newCode, tokenOn, clientToken, anyTaken, singlePlan, accessPlan, codePlan, exchangePlan, refreshPlan, credentialsPlan, planOf};
+ghost use Rattle.protocol.specs.Granting.{newCode, tokenOn, clientToken, refusedSlots, anyTaken, singlePlan, accessPlan, codePlan, exchangePlan, refreshPlan, credentialsPlan, planOf};
 ghost use Rattle.granting.specs.Granted.{refusedWith, grantedWith, Follows, randomNeeded, ownAt, spentOn};
 
 // What a request comes to: the decision; with a grant the scope of what is issued, and whether a refresh token comes
@@ -91,13 +93,22 @@ fn new_code(t: u64, handle: [u8; HANDLE_SIZE], request: CodeRequest) -> Slot
         farm: request.farm,
         scope: request.scope,
         expiry,
+        origin: [0u8; HANDLE_SIZE],
     }
 }
 
-// The token that is issued on a code or refresh token: client and farm are its own.
-fn token_on(origin: Slot, t: u64, kind: u8, handle: [u8; HANDLE_SIZE], scope: u8) -> Slot
+// The token that is issued on the code or refresh token `shown`, from the code of the handle `origin`: client and farm
+// are those of `shown`.
+fn token_on(
+    shown: Slot,
+    origin: [u8; HANDLE_SIZE],
+    t: u64,
+    kind: u8,
+    handle: [u8; HANDLE_SIZE],
+    scope: u8,
+) -> Slot
     requires { ⌜ (t ≤ latestTime) × (kind ≤ kindLast) ⌝ }
-    ensures { λ r. ⌜ r ≡ tokenOn origin t kind handle scope ⌝ }
+    ensures { λ r. ⌜ r ≡ tokenOn shown origin t kind handle scope ⌝ }
 {
     let expiry = expiry_at(t, kind);
     Slot {
@@ -105,11 +116,12 @@ fn token_on(origin: Slot, t: u64, kind: u8, handle: [u8; HANDLE_SIZE], scope: u8
         handle,
         scope,
         expiry,
-        ..origin
+        origin,
+        ..shown
     }
 }
 
-// The access token that is issued to a client for itself: no owner allowed a farm.
+// The access token that is issued to a client for itself: no owner allowed a farm, and it came from no code but itself.
 fn client_token(t: u64, handle: [u8; HANDLE_SIZE], request: CredentialsRequest) -> Slot
     requires { ⌜ t ≤ latestTime ⌝ }
     ensures { λ r. ⌜ r ≡ clientToken t handle request ⌝ }
@@ -125,6 +137,7 @@ fn client_token(t: u64, handle: [u8; HANDLE_SIZE], request: CredentialsRequest) 
         farm: NO_FARM,
         scope,
         expiry,
+        origin: handle,
     }
 }
 
@@ -208,7 +221,25 @@ fn grant_code(store: &mut [u8], t: u64, random: &[u8], request: CodeRequest) -> 
     )
 }
 
-// Clears the slot of a code, then issues an access and a refresh token on it.
+// Withdraws the tokens that came from the code presented, if it is a spent one of the client's that is still live. Another
+// code that has its handle, run out or not, comes before it.
+fn withdraw_shown_again(store: &mut [u8], t: u64, presented: HandleText, client: u8)
+    requires { ⌜ length (now store) ≡ storeSize ⌝ }
+    ensures { λ _.
+        let before = decode (now (store .entry)) in
+        ⌜ decode (now (store .exit)) ≡ withSlots before (refusedSlots t client presented (before .slots)) ⌝ }
+{
+    let Found::Nothing = token_store::find(store, Sought::Code, presented) else {
+        return;
+    };
+    let Found::At(_) = find_own(store, t, Sought::Spent, presented, client) else {
+        return;
+    };
+    let handle = presented.bytes;
+    token_store::clear_tokens(store, &handle);
+}
+
+// Keeps a code as spent, then issues an access and a refresh token on it.
 fn spend(
     store: &mut [u8],
     t: u64,
@@ -220,12 +251,25 @@ fn spend(
     requires { ⌜ (length (now store) ≡ storeSize) × (t ≤ latestTime) × (i < slotCount) ⌝ }
     ensures { λ _.
         let before = decode (now (store .entry)) in
-        ⌜ decode (now (store .exit)) ≡ withSlots before (spentOn t first second code (set (before .slots) i freeSlot)) ⌝ }
+        ⌜ decode (now (store .exit)) ≡ withSlots before (spentOn t first second code (set (before .slots) i (spentCode code))) ⌝ }
 {
+    let origin = code.handle;
     let scope = code.scope;
-    token_store::clear(store, i);
-    token_store::issue(store, t, token_on(code, t, KIND_ACCESS, first, scope));
-    token_store::issue(store, t, token_on(code, t, KIND_REFRESH, second, scope));
+    let spent = Slot {
+        kind: KIND_SPENT,
+        ..code
+    };
+    token_store::put(store, i, spent);
+    token_store::issue(
+        store,
+        t,
+        token_on(code, origin, t, KIND_ACCESS, first, scope),
+    );
+    token_store::issue(
+        store,
+        t,
+        token_on(code, origin, t, KIND_REFRESH, second, scope),
+    );
 }
 
 // Exchanges the code presented for an access and a refresh token.
@@ -242,14 +286,14 @@ fn grant_exchange(
         ⌜ Follows (exchangePlan t (before .slots) (now (random .entry)) presented request) before r (decode (now (store .exit))) ⌝ }
 {
     let Found::At(i) = find_own(store, t, Sought::Code, presented, request.client) else {
+        withdraw_shown_again(store, t, presented, request.client);
         return refused(Refusal::Token(ErrorWord::InvalidGrant));
     };
     let code = token_store::slot_at(store, i);
     if (code.kind == KIND_BOUND_CODE) & !request.again {
         return refused(Refusal::Token(ErrorWord::InvalidGrant));
     }
-    // The code's own slot counts as free. It is live, so that it is not the one found: with it there are two.
-    if !token_store::has_room(store, t, 1) {
+    if !token_store::has_room(store, t, 2) {
         return refused(Refusal::Failed(Failure::NoRoom));
     }
     let first = token_store::handle_at(random, 0);
@@ -284,7 +328,9 @@ fn grant_refresh(
     }
     let scope = parameters::scope_given(asked, token.scope);
     let handle = token_store::handle_at(random, 0);
-    grant_access(store, t, token_on(token, t, KIND_ACCESS, handle, scope))
+    let origin = token.origin;
+    let access = token_on(token, origin, t, KIND_ACCESS, handle, scope);
+    grant_access(store, t, access)
 }
 
 // Issues an access token to a client for itself. Of the random bytes the first handle is looked at.

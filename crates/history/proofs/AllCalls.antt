@@ -23,7 +23,7 @@ use Rattle.octets.proofs.Counting.{count-append}
 use Rattle.history.proofs.HeldIssues.{Held, asIssue}
 use Rattle.history.proofs.Invariant.{Invariant, invariant-fresh, invariant-later}
 use Rattle.history.proofs.Readings.{FitClients, clients-fit, Brings}
-use Rattle.history.proofs.OneRequest.{heldAfter, request-kept}
+use Rattle.history.proofs.OneRequest.{heldAfter, heldAfterRefusal, request-kept}
 use Rattle.history.proofs.SoundStores.{Sound, sound-back, sound-fresh, encode-fresh, sound-after}
 use Rattle.history.proofs.AnyCall.{outcomeOn, asked, isPast, TakenCall, unseen, seen, refused-unfit, take, past-buffers, past-registry, past-clock, call-brings, planOn, leftBy, store-on, fit-on}
 use Rattle.history.proofs.Shown.{standing-shown}
@@ -122,7 +122,7 @@ module _ (registry : List ℕ) (bytes : Bytes registry) where
               slots = leftBy clients g c .slots;
               held =
                   cond (isGrant (decisionOn (planOn clients g c)))
-                  (heldAfter t (v .held) number (handedTo c .random) (twenties c) p request q) (v .held);
+                  (heldAfter t (v .held) number (handedTo c .random) (twenties c) p request q) (heldAfterRefusal t (v .held) p request);
               bytes = store-on clients g c;
               sound = sound-left c typed b past g (v .sound);
               issues =

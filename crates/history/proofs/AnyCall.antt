@@ -51,7 +51,6 @@ use Rattle.history.specs.AnyStore.{unfitAnswer, unfitOutcome}
 use Rattle.octets.proofs.Booleans.{or-none}
 use Rattle.protocol.proofs.Reasons.{unrefused, decided}
 use Rattle.history.proofs.Readings.{FitClients, OneHandle, TwoHandles, second-last, Brings, authorization-brings, token-brings}
-use Rattle.history.proofs.OneRequest.{denied-slots}
 
 -- ---- calls over a store as a record, past refusals 1 to 4
 
@@ -260,11 +259,9 @@ module _ (clients : List Client) (g : Store) where
   granted-on (token header body handed) = status-grant (decisionOn (planOn (token header body handed)))
   granted-on (check presented clock) = refl
 
-  -- one that is not granted leaves the slots
-  pub refused-left : (c : Call) → isGranted (outcomeOn clients g c .answer) ≡ false → leftBy c .slots ≡ g .slots
-  refused-left c e =
-      refused-keeps (planOn c) (sym (granted-on c) ∙ e)
-      ∙ denied-slots (callTime g (handedTo c .clock)) (g .slots) (handedTo c .random) (asked clients c .presented) (asked clients c .request)
+  -- one that is not granted leaves what its plan says
+  pub refused-left : (c : Call) → isGranted (outcomeOn clients g c .answer) ≡ false → leftBy c .slots ≡ planOn c .denied
+  refused-left c e = refused-keeps (planOn c) (sym (granted-on c) ∙ e)
 
   pub fit-on : (c : Call) → Brings (length clients) (handedTo c .random) (twenties c) (asked clients c .request)
       → isUnfit (outcomeOn clients g c .answer) ≡ false

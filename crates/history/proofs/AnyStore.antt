@@ -2,45 +2,58 @@
 --
 -- The first input that is unfit decides refusals 1 to 4, which leave all bytes. Past them the store is fit, so that it is read as a
 -- sound one (`fit-sound`): a call leaves it sound, and a refusal leaves its slots, which are written as they were read
--- (`encode-later`). What is written fits the output (Written).
+-- (`encode-later`), but where a code is shown twice, which frees some of them (`encode-freed`). What is written fits the output (Written).
 --
--- In order: the first unfit input; later refusals; the store that is left; the theorem.
+-- In order: the first unfit input; later refusals; a code that is shown twice; the store that is left; the theorem.
 -- Assumes nothing.
-use mathlib.Core.Path.{_≡_, refl, ap, _∙_}
-use mathlib.Core.Bool.{Bool, true, false, not, _&&_, _||_, true≢false}
+use mathlib.Core.Path.{_≡_, refl, sym, ap, _∙_, fun-ext}
+use mathlib.Core.Bool.{Bool, true, false, cond, not, _&&_, _||_, true≢false}
 use mathlib.Core.List.{List, []}
 use Prim.Native.Nat.{ℕ, _≤_}
 use lib.Dec.{ltb, lit<}
-use lib.ListN.{length, drop}
-use lib.Seq.{sets}
+use native.Mathlib.Omega.{arith}
+use borrow.Author.Tests.{le-ltb}
+use lib.ListN.{length, take as takeFirst, drop, replicate}
+use lib.Seq.{take-at, drop-at, length-take-le, sets}
 use Rattle.octets.specs.Text.{bytes}
-use Rattle.octets.specs.Lists.{Bytes, every}
+use Rattle.octets.specs.Lists.{Bytes, every, same}
 use Rattle.octets.specs.Search.{any}
+use Rattle.octets.proofs.Booleans.{by-test, and-left}
+use Rattle.octets.proofs.Counting.{firstOr-passes, firstOr-none}
+use Rattle.encoding.specs.Hex.{readHandle}
+use Rattle.encoding.specs.declared.HandleText.{HandleText}
 use Rattle.form.specs.Content.{Value, formValue}
 use Rattle.client_registry.proofs.Clients.{redirect-most}
 use Rattle.client_registry.specs.Registry.{Client, fitRegistry, clientsOf}
 use Rattle.client_registry.specs.Lookup.{clientAt}
-use Rattle.token_store.specs.Layout.{latestTime}
-use Rattle.token_store.specs.Store.{Store, encode, decode, callTime}
-use Rattle.token_store.proofs.Codec.{time-at, encode-later}
+use Rattle.token_store.specs.Layout.{latestTime, timeSize, slotSize, slotCount, storeSize}
+use Rattle.token_store.specs.Store.{Store, isToken, isSought, isLive, freeSlot, shows, soughtKey, comesFrom, withoutTokens, concat, tabulate, slotBytes, decodeSlot, encode, decode, callTime}
+use Rattle.token_store.specs.declared.Sought.the-variants.{Spent}
+use Rattle.token_store.proofs.Slots.{sought-used}
+use Rattle.token_store.proofs.Codec.{time-at, encode-later, encode-freed}
 use Rattle.token_store.proofs.Fits.{fit-size}
 use Rattle.token_store.specs.declared.Slot.{Slot}
 use Rattle.protocol.specs.declared.Input.{Input}
 use Rattle.protocol.specs.declared.Input.the-variants.{Buffers, Registry, Store as StoreInput, Clock}
+use Rattle.protocol.specs.declared.ErrorWord.the-variants.{InvalidGrant}
 use Rattle.protocol.specs.declared.Refusal.{Refusal}
 use Rattle.protocol.specs.declared.Refusal.the-variants.{Unfit, ErrorPage, Redirect, Token, Failed}
 use Rattle.protocol.specs.declared.Decision.{Decision}
 use Rattle.protocol.specs.declared.Decision.the-variants.{Refuse}
 use Rattle.protocol.specs.Answers.{isGrant}
 use Rattle.protocol.specs.Authorization.{queryClient, locationText}
-use Rattle.protocol.specs.Granting.{firstHandle}
+use Rattle.protocol.specs.Granting.{firstHandle, shownSlot, decisionOn}
 use Rattle.protocol.specs.Outcomes.{unfitReasons, Handed, Endpoint, Outcome, admit, outcomeBy, outcome, serveAuthorization, authorizationEndpoint, replyText, serveToken, tokenEndpoint, checkEndpoint, clockAlone}
 use Rattle.protocol.proofs.Reasons.{stop, pass, first-counts, grant-every}
 use Rattle.history.specs.Calls.{Call, authorization, token, check, handedTo, WellTyped}
 use Rattle.history.specs.Server.{Answer, authorizationAnswer, tokenAnswer, checkAnswer, answering, outcomeOf, isUnfit, isGranted, lengthOf}
-use Rattle.history.specs.AnyStore.{buffersUnfit, inputs, isFitFor, isUnfitInput, FirstUnfit, unfitAnswer, unfitOutcome, decisionIn, refusalText, refusalAnswer, withClock, done, output, Demand1}
+use Rattle.history.specs.Contents.{valueOf, codeShown}
+use Rattle.history.specs.Slots.{holdsTokenFrom}
+use Rattle.history.specs.AnyStore.{isShownTwice, withoutTokensFrom, afterRefusal, buffersUnfit, inputs, isFitFor, isUnfitInput, FirstUnfit, unfitAnswer, unfitOutcome, decisionIn, refusalText, refusalAnswer, withClock, done, output, Demand1}
 use Rattle.history.proofs.SoundStores.{sound-fit, fit-sound}
-use Rattle.history.proofs.AnyCall.{outcomeOn, unfitTo, isPast, TakenCall, unseen, seen, refused-unfit, take, seen-past, past-buffers, past-registry, past-store, leftBy, store-on, fit-on, refused-left}
+use Rattle.history.proofs.AnyCall.{outcomeOn, asked, planOn, unfitTo, isPast, TakenCall, unseen, seen, refused-unfit, take, seen-past, past-buffers, past-registry, past-store, leftBy, store-on, fit-on, refused-left}
+use Rattle.history.proofs.Asking.{caller-is}
+use Rattle.history.proofs.SecondShowing.{isAgain, denied-is, again-valid, again-refused}
 use Rattle.history.proofs.Written.{textOn, Written, written-within, written-sized, written-beyond, written-on, unfit-written}
 use Rattle.history.proofs.AllCalls.{brings, sound-left}
 
@@ -120,6 +133,42 @@ module _ (clients : List Client) (g : Store) where
   refused-on (token header body handed) r e = rw e (refl, refl)
   refused-on (check presented clock) r e = absurd (true≢false (ap isGrant e))
 
+-- ---- a code that is shown twice
+
+-- a spent code that is found is live before its expiry; what stands for none never is
+spent-live : (t : ℕ) (slots : List Slot) (p : HandleText) → let s = shownSlot Spent p slots in isLive t s ≡ ltb t (s .expiry)
+unfolding freeSlot
+spent-live t slots p = by-test (any key slots) found none
+  where
+    key : Slot → Bool
+    key = soughtKey Spent p
+
+    found : any key slots ≡ true → isLive t (shownSlot Spent p slots) ≡ ltb t (shownSlot Spent p slots .expiry)
+    found e =
+        let s = shownSlot Spent p slots in
+        rw (sought-used Spent s (and-left (isSought Spent s) (shows p s) (firstOr-passes key freeSlot slots e)))
+
+    none : any key slots ≡ false → isLive t (shownSlot Spent p slots) ≡ ltb t (shownSlot Spent p slots .expiry)
+    none e = rw (firstOr-none key freeSlot slots e) (sym (le-ltb t 0 (omega arith)))
+
+module _ (clients : List Client) (store : List ℕ) where
+  -- the claim's words are the server's
+  twice-again : (c : Call) → isShownTwice clients store c ≡ isAgain clients (callTime (decode store) (handedTo c .clock)) (decode store .slots) c
+  unfolding isShownTwice isAgain handedTo
+  twice-again (authorization query decision farm handed) = refl
+  twice-again (token header body handed) =
+      let p = readHandle (valueOf body (bytes "code")) in
+      rw (caller-is clients header body, ← (time-at store), spent-live (callTime (decode store) (handed .clock)) (decode store .slots) p)
+  twice-again (check presented clock) = refl
+
+  -- what is decided is what is answered, of a call that can be refused
+  twice-decided : (c : Call) → isShownTwice clients store c ≡ true → decisionOn (planOn clients (decode store) c) ≡ Refuse (Token InvalidGrant)
+      → decisionIn (outcomeOn clients (decode store) c .answer) ≡ Refuse (Token InvalidGrant)
+  unfolding outcomeOn serveAuthorization serveToken decisionIn asked handedTo isShownTwice
+  twice-decided (authorization query decision farm handed) twice e = e
+  twice-decided (token header body handed) twice e = e
+  twice-decided (check presented clock) twice e = absurd (true≢false (sym twice))
+
 -- ---- the store that is left
 
 module _ (registry : List ℕ) (bytes : Bytes registry) (store : List ℕ) (stored : Bytes store) (c : Call) (typed : WellTyped c) where
@@ -157,17 +206,49 @@ module _ (registry : List ℕ) (bytes : Bytes registry) (store : List ℕ) (stor
   refused-answers r fit e =
       let served = seen-past registry store c fit .1 in rw served (refused-on clients (decode store) c r (rw served at e))
 
+  abbrev t : ℕ
+  t = callTime (decode store) (handedTo c .clock)
+
+  abbrev slots : List Slot
+  slots = decode store .slots
+
+  -- the store that a refusal leaves, where a code is shown again and where not
+  abbrev LeavesAs : Bool → Type 0
+  LeavesAs again =
+      encode (record { time = t; slots = cond again (withoutTokens (readHandle (codeShown c) .bytes) slots) slots })
+      ≡ withClock (handedTo c .clock) (cond again (withoutTokensFrom (codeShown c) store) store)
+
+  leaves-as : length store ≡ storeSize → (again : Bool) → isAgain clients t slots c ≡ again → LeavesAs again
+  unfolding encode
+  leaves-as size true e =
+      let handle = readHandle (codeShown c) .bytes in
+      let front : length (takeFirst timeSize store) ≡ timeSize = length-take-le timeSize store (omega arith) in
+      let same-test : (slot : List ℕ) → comesFrom handle (decodeSlot slot) ≡ holdsTokenFrom (codeShown c) slot =
+      λ slot. ap (λ (v : Bool). isToken (decodeSlot slot) && (v && same handle (decodeSlot slot .origin))) (sym (again-valid clients t slots c e))
+      in
+      let freed =
+      encode-freed store size stored (comesFrom handle)
+      ∙ ap (λ (k : List ℕ → Bool). concat (tabulate slotCount (λ i. cond (k (slotBytes store i)) (replicate slotSize 0) (slotBytes store i)))) (fun-ext same-test)
+      in
+      rw (freed, time-at store, take-at (takeFirst timeSize store) _ timeSize front, drop-at (takeFirst timeSize store) _ timeSize front)
+  leaves-as size false e = encode-later store size stored t ∙ rw (time-at store)
+
   refused-store : isUnfit (done registry store c .answer) ≡ false → isGranted (done registry store c .answer) ≡ false
-      → done registry store c .store ≡ withClock (handedTo c .clock) store
+      → done registry store c .store ≡ withClock (handedTo c .clock) (afterRefusal clients store c)
   refused-store fit denied =
       let p = seen-past registry store c fit in
-      let t = callTime (decode store) (handedTo c .clock) in
-      let keeps = refused-left clients (decode store) c (rw (p .1) at denied) in
+      let size = fit-size (length clients) store (past-store registry store c (p .0)) in
+      let left = refused-left clients (decode store) c (rw (p .1) at denied) ∙ denied-is clients t slots (handedTo c .random) c in
       ap (λ (o : Outcome Answer). o .store) (p .1)
       ∙ store-on clients (decode store) c
-      ∙ ap (λ (slots : List Slot). encode (record { time = t; slots = slots })) keeps
-      ∙ encode-later store (fit-size (length clients) store (past-store registry store c (p .0))) stored t
-      ∙ rw (time-at store)
+      ∙ ap (λ (l : List Slot). encode (record { time = t; slots = l })) left
+      ∙ leaves-as size (isAgain clients t slots c) refl
+      ∙ ap (λ (b : Bool). withClock (handedTo c .clock) (cond b (withoutTokensFrom (codeShown c) store) store)) (sym (twice-again clients store c))
+
+  twice-refused : isUnfit (done registry store c .answer) ≡ false → isShownTwice clients store c ≡ true
+      → decisionIn (done registry store c .answer) ≡ Refuse (Token InvalidGrant)
+  twice-refused fit twice =
+      rw (seen-past registry store c fit .1) (twice-decided clients store c twice (again-refused clients t slots (handedTo c .random) c (sym (twice-again clients store c) ∙ twice)))
 
   stays-fit : isFitFor registry store ≡ true → isFitFor registry (done registry store c .store) ≡ true
   stays-fit fit = by (take registry store c)
@@ -186,6 +267,7 @@ demand1 registry bytes store stored c typed = record {
   unfit = λ i u. unfit-done registry store c i (first-refused registry store c i u);
   answers = refused-answers registry bytes store stored c typed;
   refused = refused-store registry bytes store stored c typed;
+  shownTwice = twice-refused registry bytes store stored c typed;
   staysFit = stays-fit registry bytes store stored c typed;
   within = written registry bytes store stored c typed .short;
   sized = written registry bytes store stored c typed .sized;

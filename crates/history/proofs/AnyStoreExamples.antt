@@ -29,7 +29,7 @@ use Rattle.protocol.specs.Refusals.{firstOf}
 use Rattle.protocol.specs.Outcomes.{Handed, admit, outcomeBy, outcome}
 use Rattle.history.specs.Calls.{Call, authorization, token, check, handedTo, freshStore}
 use Rattle.history.specs.Server.{Answer, authorizationAnswer, tokenAnswer, checkAnswer, outcomeOf, isGranted, lengthOf, ours}
-use Rattle.history.specs.AnyStore.{buffersUnfit, inputs, isUnfitInput, unfitOutcome, Demand1}
+use Rattle.history.specs.AnyStore.{buffersUnfit, inputs, isUnfitInput, unfitOutcome, isShownTwice, Demand1}
 use Rattle.history.proofs.SoundStores.{sound-fresh, sound-fit}
 use Rattle.history.proofs.AllCalls.{fresh-bytes}
 use Rattle.history.proofs.AnyStore.{demand1}
@@ -129,5 +129,5 @@ unfolding any isUnfitInput buffersUnfit handedTo
 past-1000 = rw (sample-fit, fresh-fit)
 
 pub clock-kept : take 9 (ours sampleRegistry freshStore (check (bytes "lost") 1000) .store) ≡ 0 ∷ 0 ∷ 0 ∷ 0 ∷ 0 ∷ 0 ∷ 3 ∷ 232 ∷ 0 ∷ []
-unfolding outcomeOf isGranted handedTo freshStore bigEndianBytes bigEndianFrom
+unfolding outcomeOf isGranted handedTo isShownTwice freshStore bigEndianBytes bigEndianFrom
 clock-kept = let d = claims (bytes "lost") 1000 in ap (λ (b : List ℕ). take 9 b) (d .refused (d .told ∙ past-1000) refl)

@@ -34,8 +34,7 @@ use Rattle.protocol.specs.Requests.{scopeAsked, presentingNone, refusedReading,
 use Rattle.protocol.specs.Authorization.{scopeFor}
 use Rattle.protocol.specs.ClientForms.{isInvalidForm, isInvalidClient, presentedId, headerId, credentials, callClient, formReasons}
 use Rattle.protocol.specs.Token.{tokenNames, readExchange, readRefresh, readCredentials, readGrant, readToken}
-use Rattle.history.specs.Contents.{valueOf, isExchange, isRefresh, isCredentials, idIn, caller}
-use Rattle.history.specs.Claim.{isAdmitted}
+use Rattle.history.specs.Contents.{valueOf, isExchange, isRefresh, isCredentials, idIn, caller, isAdmitted}
 
 -- ---- who calls
 

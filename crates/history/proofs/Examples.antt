@@ -7,14 +7,14 @@
 -- Assumes nothing.
 use mathlib.Core.Path.{_≡_, refl}
 use mathlib.Core.Bool.{Bool, true, false, cond, _&&_, _||_, Bool·beq}
-use mathlib.Core.List.{List, [], _∷_, _++_}
+use mathlib.Core.List.{List, [], _∷_, _++_, map}
 use Prim.Native.Nat.{ℕ, _+_, _*_, _-_, _^_, max}
 use lib.Dec.{ltb}
-use lib.ListN.{replicate}
+use lib.ListN.{replicate, drop}
 use Rattle.octets.specs.Text.{bytes}
-use Rattle.octets.specs.BigEndian.{bigEndianBytes}
+use Rattle.octets.specs.BigEndian.{bigEndianBytes, bigEndianFrom}
 use Rattle.octets.specs.Lists.{part, every, same, indexOf, splitOn, grow}
-use Rattle.octets.specs.Search.{indexWhere, count, any, firstOr, replaceFirst, keep}
+use Rattle.octets.specs.Search.{indexWhere, count, any, firstOr, replaceFirst, replaceAll, keep}
 use Rattle.encoding.specs.Hex.{hexText, hexDigit, hexValue, readHandle, isHandleText, unhex}
 use Rattle.encoding.specs.Base64.{isBase64, base64Bytes, groupBytes, soundGroup, sextet, none}
 use Rattle.form_coding.specs.Coding.{decodeAfter, firstByte, extra, isEscape, plain, wellFormed, sound, encode, encodeByte}
@@ -23,7 +23,7 @@ use Rattle.scope.specs.Set.{names}
 use Rattle.scope.specs.Value.{bitFrom, bitOf, union, readScope, chosen, spaced, scopeText}
 use Rattle.client_registry.specs.Registry.{distinct}
 use Rattle.client_registry.specs.Sample.{sampleConfidential, samplePublic, sampleClients}
-use Rattle.token_store.specs.Store.{encode as encodeStore, encodeSlot, concat, Store, kindBoundCode, kindAccess, kindRefresh, freeSlot, fresh}
+use Rattle.token_store.specs.Store.{encode as encodeStore, encodeSlot, decodeSlot, concat, cut, Store, kindBoundCode, kindAccess, kindRefresh, freeSlot, fresh}
 use Rattle.token_store.specs.declared.Slot.{Slot}
 use Rattle.protocol.specs.declared.Failure.the-variants.{NoRoom}
 use Rattle.protocol.specs.declared.Refusal.the-variants.{Failed}
@@ -39,8 +39,9 @@ use Rattle.protocol.specs.Granting.{refusedPlan, codePlan, exchangePlan, refres
 use Rattle.protocol.specs.Outcomes.{Handed, serveAuthorization, replyText, serveToken, serveCheck}
 use Rattle.protocol.proofs.Starred.{countUp, rfcQuery}
 use Rattle.history.specs.Calls.{Call, authorization, token, check, handedTo, Result}
-use Rattle.history.specs.Contents.{Sort, code, access, refresh, Issue, noIssue, isExchange, isRefresh, isCredentials, noneBeyond, isWithinGranted, namesOr, askedOr, idIn, codeIssue, exchangeIssues, refreshIssues, ownIssue, issuedBy, isEndedBy, standingAfter, Contents, nothingYet, withEvent, withEvents, twenties}
-use Rattle.history.specs.Claim.{isAdmitted, isRepeatedBy, mayExchange, mayRefresh, mayHaveOwn, mayPass}
+use Rattle.history.specs.Contents.{Sort, code, access, refresh, Issue, noIssue, isExchange, isRefresh, isCredentials, noneBeyond, isWithinGranted, namesOr, askedOr, idIn, isAdmitted, codeIssue, exchangeIssues, refreshIssues, ownIssue, issuedBy, isSpentBy, asSpent, isSecondShowing, codeShown, isWithdrawnBy, standingAfter, Contents, nothingYet, withEvent, withEvents, twenties}
+use Rattle.history.specs.Slots.{holdsTokenFrom}
+use Rattle.history.specs.Claim.{isRepeatedBy, mayExchange, mayRefresh, mayHaveOwn, mayPass}
 use Rattle.history.specs.Server.{isUnfitRefusal, isUnfitDecision, isUnfitCheck, isUnfit, isGranted, lengthOf, isLiveCheck, namedBy, isPassed, namedIn}
 use Rattle.history.proofs.AnyCall.{outcomeOn, asked, unfitTo}
 use Rattle.history.proofs.CallsOnRecords.{resultOn, leftByAll, eventsOn, isFitting}
@@ -147,6 +148,23 @@ day =
     ∷ authorization lessQuery 1 7 (handedAt 1506 20 3)
     ∷ []
 
+-- behind it the visit's code is shown again: by its client, who repeats no redirect_uri; at its old expiry; by the other client; and by
+-- one who has not the secret
+unfoldable pub showingBy : List ℕ → List ℕ → ℕ → List Call
+showingBy h b clock = day ++ tokenAt h b clock 0x48 ∷ []
+
+unfoldable pub leak : List Call
+leak = showingBy header (exchangeOf codeText) 1599
+
+unfoldable pub lateShowing : List Call
+lateShowing = showingBy header (exchangeOf codeText) 1600
+
+unfoldable pub strangers : List Call
+strangers = showingBy [] (byBarnapp codeText) 1599
+
+unfoldable pub impostors : List Call
+impostors = showingBy [] (repeating codeText ++ bytes "&client_id=s6BhdRkqt3") 1599
+
 -- the first client asks for itself, for its whole set and for less; one that asks for more, and a public one, are refused
 unfoldable pub pumps : List Call
 pumps =
@@ -220,6 +238,20 @@ cases =
           ∷ [];
     }
     ∷ record {
+      calls = leak;
+      judged =
+          no (check accessText 1601)
+          ∷ no (check againText 1601)  -- by a refresh
+          ∷ no (asking header (refreshFor refreshText []) 1601)
+          ∷ no (asking header (repeating codeText) 1599)  -- a third time
+          ∷ yes (asking header (repeating lessText) 1601)  -- another code
+          ∷ yes (asking [] (exchangeOf barnText ++ bytes "&client_id=barnapp") 1601)
+          ∷ [];
+    }
+    ∷ record { calls = lateShowing; judged = yes (check accessText 1601) ∷ yes (asking header (refreshFor refreshText []) 1601) ∷ [] }
+    ∷ record { calls = strangers; judged = yes (check accessText 1601) ∷ yes (check againText 1601) ∷ [] }
+    ∷ record { calls = impostors; judged = yes (check accessText 1601) ∷ [] }
+    ∷ record {
       calls = pumps;
       judged =
           yes (asking header (ownFor []) 1510)
@@ -289,17 +321,17 @@ agrees l = every (agreesOn (leftIn (l .calls)) (containedIn (l .calls))) (l .jud
 unfoldable pub redirect : Value
 redirect = once (bytes "https://client.example.com/cb")
 
--- what the first client gets for farm 7: a code, which is bound, or a token
+-- what the first client gets for farm 7: a code, which is bound, or a token, from the visit's code
 unfoldable pub codeUntil : List ℕ → ℕ → ℕ → Issue
 codeUntil text scope expiry =
-    record { sort = code; text = text; client = 0; farm = 7; scope = scope; address = redirect; expiry = expiry }
+    record { sort = code; text = text; client = 0; farm = 7; scope = scope; address = redirect; expiry = expiry; origin = text }
 
 unfoldable pub tokenUntil : Sort → List ℕ → ℕ → ℕ → Issue
 tokenUntil sort text scope expiry =
-    record { sort = sort; text = text; client = 0; farm = 7; scope = scope; address = missing; expiry = expiry }
+    record { sort = sort; text = text; client = 0; farm = 7; scope = scope; address = missing; expiry = expiry; origin = codeText }
 
 unfoldable pub barnCode : Issue
-barnCode = record { sort = code; text = barnText; client = 1; farm = 9; scope = 1; address = missing; expiry = 2105 }
+barnCode = record { sort = code; text = barnText; client = 1; farm = 9; scope = 1; address = missing; expiry = 2105; origin = barnText }
 
 unfoldable pub inVisit : Contents
 inVisit = record { highest = 1000; standing = codeUntil codeText 11 1600 ∷ []; randoms = countUp 20 0 ∷ [] }
@@ -313,6 +345,7 @@ inDay = record {
       ∷ tokenUntil access againText 9 5102
       ∷ tokenUntil refresh refreshText 11 2593500
       ∷ tokenUntil access accessText 11 5100
+      ∷ asSpent (codeUntil codeText 11 1600)
       ∷ [];
   randoms =
       countUp 20 3
@@ -341,7 +374,7 @@ evening = day ++ asking [] barnBody 1510 ∷ []
 
 unfoldable pub barnToken : Sort → List ℕ → ℕ → Issue
 barnToken sort text expiry =
-    record { sort = sort; text = text; client = 1; farm = 9; scope = 1; address = missing; expiry = expiry }
+    record { sort = sort; text = text; client = 1; farm = 9; scope = 1; address = missing; expiry = expiry; origin = barnText }
 
 unfoldable pub barnAccess : List ℕ
 barnAccess = bytes "c0c1c2c3c4c5c6c7c8c9cacbcccdcecfd0d1d2d3"
@@ -353,16 +386,27 @@ inEvening = record {
       barnToken refresh (bytes "d4d5d6d7d8d9dadbdcdddedfe0e1e2e3e4e5e6e7") 2593510
       ∷ barnToken access barnAccess 5110
       ∷ codeUntil lessText 10 2106
+      ∷ asSpent barnCode
       ∷ tokenUntil access againText 9 5102
       ∷ tokenUntil refresh refreshText 11 2593500
       ∷ tokenUntil access accessText 11 5100
+      ∷ asSpent (codeUntil codeText 11 1600)
       ∷ [];
   randoms = countUp 20 0xC0 ∷ countUp 20 0xD4 ∷ inDay .randoms;
 }
 
+-- behind the second showing, the tokens from that code stand no longer
+unfoldable pub inLeak : Contents
+inLeak = record {
+  highest = 1599;
+  standing = codeUntil lessText 10 2106 ∷ barnCode ∷ asSpent (codeUntil codeText 11 1600) ∷ [];
+  randoms = countUp 20 0x48 ∷ countUp 20 0x5C ∷ inDay .randoms;
+}
+
 -- the first client's tokens for itself
 unfoldable pub ownUntil : List ℕ → ℕ → ℕ → Issue
-ownUntil text scope expiry = record { sort = access; text = text; client = 0; farm = 0; scope = scope; address = missing; expiry = expiry }
+ownUntil text scope expiry =
+    record { sort = access; text = text; client = 0; farm = 0; scope = scope; address = missing; expiry = expiry; origin = text }
 
 unfoldable pub inPumps : Contents
 inPumps = record {
@@ -392,9 +436,14 @@ mayBeside n =
     ∷ mayHaveOwn sampleClients 1001 (beside n (tokenUntil refresh refreshText 11 2593000)) header (ownFor [])
     ∷ []
 
+-- a spent code that runs out at 1600 stands beside them
+unfoldable pub mayBesideSpent : ℕ → ℕ → Bool
+mayBesideSpent t n =
+    mayExchange sampleClients t (asSpent (codeUntil codeText 11 1600) ∷ beside n (codeUntil lessText 11 1700)) header (repeating lessText)
+
 -- the same by the 512 slots of a store
 unfoldable pub slotUntil : ℕ → List ℕ → ℕ → Slot
-slotUntil kind handle expiry = record { kind = kind; handle = handle; client = 0; farm = 7; scope = 11; expiry = expiry }
+slotUntil kind handle expiry = record { kind = kind; handle = handle; client = 0; farm = 7; scope = 11; expiry = expiry; origin = replicate 20 0 }
 
 unfoldable pub decidedBeside : ℕ → Slot → List ℕ → Decision
 decidedBeside n s b =
@@ -429,10 +478,12 @@ pub record Computed : Type 0 where
       }
   pub day-contains : containedIn day ≡ inDay
   pub evening-contains : containedIn evening ≡ inEvening
+  pub leak-contains : containedIn leak ≡ inLeak
   pub pumps-contain : containedIn pumps ≡ inPumps
   pub visit-typed : every isTyped visit ≡ true
   pub day-typed : every isTyped day ≡ true
   pub evening-typed : every isTyped evening ≡ true
+  pub leak-typed : every isTyped leak ≡ true
   pub pumps-typed : every isTyped pumps ≡ true
   -- why the claim asks that random bytes never come twice: an exchange in time that brings those of its code gets 500
   pub clash : let again = tokenAt header (repeating codeText) 1510 0 in
@@ -441,15 +492,35 @@ pub record Computed : Type 0 where
   pub code-granted : resultOn sampleClients (leftIn day) (authorizeAt 1510 0xC0) .granted ≡ true
   pub barn-granted : resultOn sampleClients (leftIn day) (authorization barnQuery 1 9 (handedAt 1510 20 0xC0)) .granted ≡ true
   -- the first client's code, bound, for farm 7, scopes 10 and until 2106, in the bytes that the day leaves
-  pub code-kept : part (encodeStore (leftIn day)) (8 + 4 * 35) 35
-      ≡ 2 ∷ countUp 20 3 ++ 0 ∷ 0 ∷ 0 ∷ 0 ∷ 7 ∷ 10 ∷ 0 ∷ 0 ∷ 0 ∷ 0 ∷ 0 ∷ 0 ∷ 8 ∷ 58 ∷ []
-  -- 510, and two or one more, are 512
-  pub room-asked : mayBeside 510 ++ mayBeside 511 ≡ true ∷ true ∷ true ∷ false ∷ false ∷ false ∷ []
-  pub room-found : doneBeside 510 ++ doneBeside 511
-      ≡ Grant ∷ Grant ∷ Grant ∷ Refuse (Failed NoRoom) ∷ Refuse (Failed NoRoom) ∷ Refuse (Failed NoRoom) ∷ []
+  pub code-kept : part (encodeStore (leftIn day)) (8 + 5 * 55) 55
+      ≡ 2 ∷ countUp 20 3 ++ 0 ∷ 0 ∷ 0 ∷ 0 ∷ 7 ∷ 10 ∷ 0 ∷ 0 ∷ 0 ∷ 0 ∷ 0 ∷ 0 ∷ 8 ∷ 58 ∷ replicate 20 0
+  -- the visit's code is spent, and its tokens have its handle
+  pub code-spent : part (encodeStore (leftIn day)) 8 55
+      ≡ 5 ∷ countUp 20 0 ++ 0 ∷ 0 ∷ 0 ∷ 0 ∷ 7 ∷ 11 ∷ 0 ∷ 0 ∷ 0 ∷ 0 ∷ 0 ∷ 0 ∷ 6 ∷ 64 ∷ replicate 20 0
+  pub tokens-from : map (λ i. drop 35 (part (encodeStore (leftIn day)) (8 + i * 55) 55)) (1 ∷ 2 ∷ 3 ∷ []) ≡ replicate 3 (countUp 20 0)
+  -- so that these hold tokens from it, and it does not
+  pub token-held : holdsTokenFrom codeText (part (encodeStore (leftIn day)) (8 + 55) 55) ≡ true
+  pub none-held : holdsTokenFrom codeText (part (encodeStore (leftIn day)) 8 55) ≡ false
+  -- the code or refresh token itself and 509 or 510 more, and two or one more, are 512
+  pub room-asked : mayBeside 509 ++ mayBeside 510 ++ mayBeside 511
+      ≡ true ∷ true ∷ true ∷ false ∷ true ∷ true ∷ false ∷ false ∷ false ∷ []
+  pub room-found : doneBeside 509 ++ doneBeside 510 ++ doneBeside 511
+      ≡ Grant
+      ∷ Grant
+      ∷ Grant
+      ∷ Refuse (Failed NoRoom)
+      ∷ Grant
+      ∷ Grant
+      ∷ Refuse (Failed NoRoom)
+      ∷ Refuse (Failed NoRoom)
+      ∷ Refuse (Failed NoRoom)
+      ∷ []
+  -- a spent code takes room until it runs out
+  pub room-of-spent : mayBesideSpent 1001 508 ∷ mayBesideSpent 1001 509 ∷ mayBesideSpent 1599 509 ∷ mayBesideSpent 1600 509 ∷ []
+      ≡ true ∷ false ∷ false ∷ true ∷ []
 
 pub computed : Computed
-unfolding ownFor ownText lessOwnText pumps ownUntil inPumps encodeStore encodeSlot concat bigEndianBytes redirect codeUntil tokenUntil barnCode inVisit inDay barnBody evening barnToken barnAccess inEvening beside mayBeside slotUntil decidedBeside doneBeside yields may isTyped isAsked isJudged leftIn containedIn claimAgrees agreesOn agrees cases day visit night handedAt authorizeAt header exchangeOf repeating byBarnapp tokenAt codeText accessText refreshText exchangeAt refreshFor barnQuery lessQuery barnText againText lessText rfcQuery handedTo asked outcomeOn unfitTo leftByAll eventsOn isFitting isUnfitRefusal isUnfitDecision isUnfitCheck isUnfit isGranted lengthOf isLiveCheck namedBy isPassed namedIn noIssue noneBeyond isWithinGranted namesOr askedOr codeIssue exchangeIssues refreshIssues ownIssue issuedBy isEndedBy standingAfter withEvent withEvents twenties idIn isAdmitted isRepeatedBy mayExchange mayRefresh mayHaveOwn mayPass distinct keep count any firstOr replaceFirst freeSlot fresh every same indexOf splitOn grow hexText hexDigit hexValue readHandle isHandleText unhex isBase64 base64Bytes groupBytes soundGroup sextet none decodeAfter firstByte extra isEscape plain wellFormed sound encode encodeByte isWellFormedForm pieceName pieceValue gives add valueIn formValue names bitFrom bitOf union readScope chosen spaced scopeText indexWhere sampleClients sampleConfidential samplePublic isGrant wordText isMissing isRepeated onlyValue isOnce askedBy scopeAsked fits scopeGiven isBadQuery queryClient isBadClient isBadRedirect isSoundState isBadState isInvalidRequest isOtherType isInvalidScope codeAsked pageReasons redirectReasons readAuthorization separator stateText location codeParameter errorParameter locationText isInvalidForm lowerCase sameAnyCase credentials isBadHeader headerId headerSecret presentedId presentedSecret isUnclearId isImpostor callClient isInvalidClient formReasons readExchange readRefresh readCredentials readGrant readToken errorReply refusalReply tokenReply refreshMember firstOf unlessRefused refusedPlan codePlan exchangePlan refreshPlan credentialsPlan planFor slotsBy checkSlots serveAuthorization replyText serveToken serveCheck
+unfolding showingBy leak lateShowing strangers impostors inLeak mayBesideSpent ownFor ownText lessOwnText pumps ownUntil inPumps encodeStore encodeSlot concat bigEndianBytes decodeSlot cut bigEndianFrom redirect codeUntil tokenUntil barnCode inVisit inDay barnBody evening barnToken barnAccess inEvening beside mayBeside slotUntil decidedBeside doneBeside yields may isTyped isAsked isJudged leftIn containedIn claimAgrees agreesOn agrees cases day visit night handedAt authorizeAt header exchangeOf repeating byBarnapp tokenAt codeText accessText refreshText exchangeAt refreshFor barnQuery lessQuery barnText againText lessText rfcQuery handedTo asked outcomeOn unfitTo leftByAll eventsOn isFitting isUnfitRefusal isUnfitDecision isUnfitCheck isUnfit isGranted lengthOf isLiveCheck namedBy isPassed namedIn noIssue noneBeyond isWithinGranted namesOr askedOr codeIssue exchangeIssues refreshIssues ownIssue issuedBy isSpentBy isSecondShowing codeShown isWithdrawnBy standingAfter withEvent withEvents twenties idIn isAdmitted isRepeatedBy mayExchange mayRefresh mayHaveOwn mayPass distinct keep count any firstOr replaceFirst replaceAll freeSlot fresh every same indexOf splitOn grow hexText hexDigit hexValue readHandle isHandleText unhex isBase64 base64Bytes groupBytes soundGroup sextet none decodeAfter firstByte extra isEscape plain wellFormed sound encode encodeByte isWellFormedForm pieceName pieceValue gives add valueIn formValue names bitFrom bitOf union readScope chosen spaced scopeText indexWhere sampleClients sampleConfidential samplePublic isGrant wordText isMissing isRepeated onlyValue isOnce askedBy scopeAsked fits scopeGiven isBadQuery queryClient isBadClient isBadRedirect isSoundState isBadState isInvalidRequest isOtherType isInvalidScope codeAsked pageReasons redirectReasons readAuthorization separator stateText location codeParameter errorParameter locationText isInvalidForm lowerCase sameAnyCase credentials isBadHeader headerId headerSecret presentedId presentedSecret isUnclearId isImpostor callClient isInvalidClient formReasons readExchange readRefresh readCredentials readGrant readToken errorReply refusalReply tokenReply refreshMember firstOf unlessRefused refusedPlan codePlan exchangePlan refreshPlan credentialsPlan planFor slotsBy checkSlots serveAuthorization replyText serveToken serveCheck
 computed = record {
   cases-agree = refl;
   visit-contains = refl;
@@ -457,15 +528,22 @@ computed = record {
   twice-contain = refl;
   day-contains = refl;
   evening-contains = refl;
+  leak-contains = refl;
   pumps-contain = refl;
   visit-typed = refl;
   day-typed = refl;
   evening-typed = refl;
+  leak-typed = refl;
   pumps-typed = refl;
   clash = refl;
   code-granted = refl;
   barn-granted = refl;
   code-kept = refl;
+  code-spent = refl;
+  tokens-from = refl;
+  token-held = refl;
+  none-held = refl;
   room-asked = refl;
   room-found = refl;
+  room-of-spent = refl;
 }

@@ -4,29 +4,31 @@
 -- what a slot holds are each that law at one test; time passes by putting the later liveness into the test; and a change of one
 -- slot is arithmetic on counts.
 --
--- In order: the invariant; what keeps it (time, more random bytes, an issue, what is withdrawn), and the room that is left; what it
--- says of a look-up by a handle that came once.
+-- In order: the invariant; a code that is spent; what keeps the invariant (time, more random bytes, an issue, what is withdrawn, what is
+-- spent), and the room that is left; what it says of a look-up by a handle that came once, and of a code that is shown again.
 -- Assumes nothing.
-use mathlib.Core.Path.{_≡_, refl, sym, _∙_}
-use mathlib.Core.Bool.{Bool, true, false, not, _&&_, and-assoc, and-true, and-false}
-use mathlib.Core.List.{List, [], _∷_, List·Memᴰ}
+use mathlib.Core.Path.{_≡_, refl, sym, ap, ap₂, _∙_}
+use mathlib.Core.Bool.{Bool, true, false, cond, not, _&&_, and-assoc, and-true, and-false}
+use mathlib.Core.List.{List, [], _∷_, map, List·Memᴰ}
 use Prim.Native.Nat.{ℕ, _+_, _≤_}
+use native.Mathlib.Nat.{zero-add}
 use native.Mathlib.Omega.{arith}
 use borrow.Author.Tests.{ltb-true, lt-ltb, le-ltb, not-true}
-use lib.Dec.{ltb}
-use lib.ListN.{length, replicate, length-replicate}
+use lib.Dec.{eqb, ltb}
+use lib.ListN.{length, replicate, length-replicate, length-map}
 use Rattle.octets.specs.Lists.{same}
-use Rattle.octets.proofs.Booleans.{and-swap, and-right}
+use Rattle.octets.proofs.Booleans.{by-test, and-swap, and-left, and-right}
 use Rattle.encoding.specs.declared.HandleText.{HandleText}
 use Rattle.token_store.specs.Layout.{slotCount}
-use Rattle.octets.specs.Search.{bit, count, any, firstOr, replaceFirst, replaceAll, keep}
-use Rattle.token_store.specs.Store.{issue, isUsed, isLive, isVacant, holds, soughtKey, freeSlot}
+use Rattle.octets.specs.Search.{bit, count, any, firstOr, replaceAll, keep}
+use Rattle.token_store.specs.Store.{issue, isUsed, isLive, isVacant, isSought, holds, shows, soughtKey, freeSlot, kindSpent, spentCode}
 use Rattle.token_store.specs.declared.Slot.{Slot}
-use Rattle.token_store.proofs.Slots.{key-holds}
-use Rattle.protocol.specs.Granting.{shownSlot, room}
-use Rattle.history.specs.Contents.{Sort, NeverTwice}
-use Rattle.octets.proofs.Counting.{bit-some, bit-implies, count-ext, count-le, count-and, count-not, count-replicate, count-member, count-keep, any-count, any-some, firstOr-passes, count-firstOr, length-replaceFirst, count-replaceFirst, length-replaceAll, count-replaceAll, replaceFirst-replaceAll}
-use Rattle.history.proofs.HeldIssues.{Held, asSlot, sought, noneHeld, used, tests-tell}
+use Rattle.token_store.specs.declared.Sought.the-variants.{Code, Spent}
+use Rattle.token_store.proofs.Slots.{sought-used, code-fails, key-holds}
+use Rattle.protocol.specs.Granting.{shownSlot, withSpent, room, isOwn, isShownAgain}
+use Rattle.history.specs.Contents.{Sort, code, spent, NeverTwice}
+use Rattle.octets.proofs.Counting.{bit-some, bit-implies, count-ext, count-le, count-and, count-not, count-replicate, count-member, count-keep, any-count, any-some, firstOr-passes, count-firstOr, length-replaceFirst, count-replaceFirst, length-replaceAll, count-replaceAll, replaceFirst-map, count-map, count-apart}
+use Rattle.history.proofs.HeldIssues.{Held, asSlot, turned, spent-slot, sought, noneHeld, used, tests-tell}
 
 -- the thing issued that is presented, among those that stand
 abbrev pub originHeld : Sort → HandleText → List Held → Held
@@ -57,6 +59,38 @@ live-later t u x c h = by (ltb u x) refl
     by : (b : Bool) → ltb u x ≡ b → (b && c) ≡ (ltb t x && (b && c))
     by true e = rw (lt-ltb t x (omega (arith, ltb-true u x e)))
     by false e = sym (and-false (ltb t x))
+
+-- ---- a code that is presented is spent
+
+module _ (p : HandleText) where
+  abbrev pub spendSlot : Slot → Slot
+  spendSlot s = cond (soughtKey Code p s) (spentCode s) s
+
+  abbrev pub spendHeld : Held → Held
+  spendHeld e = cond (soughtKey Code p (asSlot e)) (turned e spent (e .bound)) e
+
+  -- it stays in use until its old expiry, with its handle
+  spend-used : (s : Slot) → isUsed (spendSlot s) ≡ isUsed s
+  spend-used s =
+      by-test (soughtKey Code p s) (λ k. rw k (sym (sought-used Code s (and-left (isSought Code s) (shows p s) k)))) (λ k. rw k)
+
+  spend-live : (t : ℕ) (s : Slot) → isLive t (spendSlot s) ≡ isLive t s
+  spend-live t s = ap₂ _&&_ (spend-used s) (by (soughtKey Code p s))
+    where
+      by : (k : Bool) → ltb t (cond k (spentCode s) s .expiry) ≡ ltb t (s .expiry)
+      by true = refl
+      by false = refl
+
+  spend-holds : (h : List ℕ) (s : Slot) → holds h (spendSlot s) ≡ holds h s
+  spend-holds h s = ap₂ _&&_ (spend-used s) (by (soughtKey Code p s))
+    where
+      by : (k : Bool) → same h (cond k (spentCode s) s .handle) ≡ same h (s .handle)
+      by true = refl
+      by false = refl
+
+  spend-slot : (e : Held) → asSlot (spendHeld e) ≡ spendSlot (asSlot e)
+  spend-slot e =
+      by-test (soughtKey Code p (asSlot e)) (λ k. rw k (spent-slot e (and-left (isSought Code (asSlot e)) (shows p (asSlot e)) k))) (λ k. rw k)
 
 module _ {t : ℕ} {slots : List Slot} {standing : List Held} {seen : List (List ℕ)} (v : Invariant t slots standing seen) where
   -- ---- time goes on
@@ -115,7 +149,7 @@ module _ {t : ℕ} {slots : List Slot} {standing : List Held} {seen : List (List
 
   -- ---- those that pass k are withdrawn
 
-  invariant-withdraw : (k : Slot → Bool) → Invariant t (replaceAll freeSlot k slots) (keep (λ e. not (k (asSlot e))) standing) seen
+  pub invariant-withdraw : (k : Slot → Bool) → Invariant t (replaceAll freeSlot k slots) (keep (λ e. not (k (asSlot e))) standing) seen
   unfolding freeSlot
   invariant-withdraw k = record {
     size = length-replaceAll freeSlot k slots ∙ v .size;
@@ -128,6 +162,36 @@ module _ {t : ℕ} {slots : List Slot} {standing : List Held} {seen : List (List
         let here : Held → Bool = λ e. holds h (asSlot e) in
         let left : Held → Bool = λ e. not (k (asSlot e)) in
         omega (arith, count-keep here left standing, count-and here left standing, v .inIssues h);
+  }
+
+  -- ---- the codes that are presented are spent
+
+  invariant-spend : (p : HandleText) → Invariant t (map (spendSlot p) slots) (map (spendHeld p) standing) seen
+  invariant-spend p = record {
+    size = length-map slots (spendSlot p) ∙ v .size;
+    bag = λ q.
+        count-map (spendSlot p) (λ s. isLive t s && q s) slots
+        ∙ count-ext (λ s. isLive t (spendSlot p s) && q (spendSlot p s)) (λ s. isLive t s && q (spendSlot p s)) slots
+        (λ s. ap (λ (b : Bool). b && q (spendSlot p s)) (spend-live p t s))
+        ∙ v .bag (λ s. q (spendSlot p s))
+        ∙ count-ext (λ e. isLive t (asSlot e) && q (spendSlot p (asSlot e))) (λ e. isLive t (asSlot (spendHeld p e)) && q (asSlot (spendHeld p e))) standing
+        (λ e. ap₂ (λ (b : Bool) (s : Slot). b && q s) (sym (ap (isLive t) (spend-slot p e) ∙ spend-live p t (asSlot e))) (sym (spend-slot p e)))
+        ∙ sym (count-map (spendHeld p) (λ e. isLive t (asSlot e) && q (asSlot e)) standing);
+    inSlots = λ h.
+        omega (
+          arith,
+          count-map (spendSlot p) (holds h) slots,
+          count-ext (λ s. holds h (spendSlot p s)) (holds h) slots (spend-holds p h),
+          v .inSlots h,
+        );
+    inIssues = λ h.
+        omega (
+          arith,
+          count-map (spendHeld p) (λ e. holds h (asSlot e)) standing,
+          count-ext (λ e. holds h (asSlot (spendHeld p e))) (λ e. holds h (asSlot e)) standing
+              (λ e. ap (holds h) (spend-slot p e) ∙ spend-holds p h (asSlot e)),
+          v .inIssues h,
+        );
   }
 
   -- ---- the room that is left
@@ -199,6 +263,52 @@ module _ {t : ℕ} {slots : List Slot} {standing : List Held} {seen : List (List
             let one : bit (isLive t slot && g slot) ≡ 1 = rw (live, h) in
             and-right (isLive t (asSlot o)) (g (asSlot o)) (bit-some (isLive t (asSlot o) && g (asSlot o)) (omega (arith, tested g, counted g)))
 
-    -- the one slot that it finds is cleared
-    pub withdrawn : Invariant t (replaceFirst key freeSlot slots) (keep (λ e. not (key (asSlot e))) standing) seen
-    withdrawn = rw (replaceFirst-replaceAll freeSlot key slots one-slot) (invariant-withdraw key)
+  -- ---- the code that is presented is spent, or was
+
+  module _ (once : NeverTwice seen) (p : HandleText) where
+    -- the one code that is found is spent
+    each : withSpent p slots ≡ map (spendSlot p) slots
+    each = replaceFirst-map spentCode (soughtKey Code p) freeSlot slots (one-slot once code p)
+
+    pub spent-kept : Invariant t (withSpent p slots) (map (spendHeld p) standing) seen
+    spent-kept = rw each (invariant-spend p)
+
+    -- which makes no room and takes none
+    pub room-spent : room t (withSpent p slots) ≡ room t slots
+    room-spent =
+        ap (room t) each
+        ∙ count-map (spendSlot p) (isVacant t) slots
+        ∙ count-ext (λ s. isVacant t (spendSlot p s)) (isVacant t) slots (λ s. ap not (spend-live p t s))
+
+    -- a spent code of the client's is shown again exactly when it is found live: then no unspent one has its handle
+    module _ (client : ℕ) where
+      abbrev own : Slot → Bool
+      own s = eqb (s .client) client
+
+      abbrev live : Slot → Bool
+      live s = isLive t s && (soughtKey Spent p s && own s)
+
+      apart : (s : Slot) → bit (soughtKey Code p s) + bit (live s) ≤ bit (holds (p .bytes) s)
+      apart s = by-test (soughtKey Code p s) unspent-one other
+        where
+          unspent-one : soughtKey Code p s ≡ true → bit (soughtKey Code p s) + bit (live s) ≤ bit (holds (p .bytes) s)
+          unspent-one k =
+              let none = code-fails (λ kind. eqb kind kindSpent) refl refl s (and-left (isSought Code s) (shows p s) k) in
+              rw (k, key-holds Code p s k, none, and-false (isLive t s)) (omega arith)
+
+          other : soughtKey Code p s ≡ false → bit (soughtKey Code p s) + bit (live s) ≤ bit (holds (p .bytes) s)
+          other k =
+              simp (zero-add, k)
+              (bit-implies (live s) (holds (p .bytes) s)
+              (λ l. key-holds Spent p s (and-left (soughtKey Spent p s) (own s) (and-right (isLive t s) (soughtKey Spent p s && own s) l))))
+
+      pub shown-again : isShownAgain t client p slots ≡ any (λ e. live (asSlot e)) standing
+      shown-again = by (isOwn t client (shownSlot Spent p slots)) refl ∙ sym (contained once spent p own)
+        where
+          by : (o : Bool) → isOwn t client (shownSlot Spent p slots) ≡ o → (not (any (soughtKey Code p) slots) && o) ≡ o
+          by false e = and-false (not (any (soughtKey Code p) slots))
+          by true e =
+              let one = v .bag (λ s. soughtKey Spent p s && own s) ∙ counted once spent p own ∙ ap bit e in
+              let few = count-apart (soughtKey Code p) live (holds (p .bytes)) slots apart in
+              let none = any-count (soughtKey Code p) false slots (omega (arith, one, few, v .inSlots (p .bytes), once (p .bytes))) in
+              rw none

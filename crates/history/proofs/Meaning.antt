@@ -1,13 +1,14 @@
--- What it is to stand, in the paper's words: the calls contain the issue, and no later call ended it (`standing-means`); and that the
+-- What it is to stand, in the paper's words: the calls contain the issue, and no later call ended it, by exchanging the code or as a
+-- second showing (`standing-means`); and that the
 -- codes and tokens that our server issues, read from its answers, are the random bytes that it was handed (`random-code`,
 -- `random-access`, `random-refresh`).
 --
 -- In order: what one event issued and ended; what stands after one event; after a list of them; codes and tokens.
 -- Assumes nothing.
-use mathlib.Core.Path.{_≡_, refl, sym, ap, _∙_}
+use mathlib.Core.Path.{_≡_, refl, sym, ap, _∙_, subst}
 use mathlib.Core.Logic.{_↔_, _⊎_, inl, inr}
-use mathlib.Core.Bool.{Bool, true, false, not, cond, _&&_, false≢true}
-use mathlib.Core.List.{List, [], _∷_, _++_, List·Memᴰ, List·Memᴰ·head, List·Memᴰ·tail, List·Memᴰ·cases-cons, List·Memᴰ·not-nil, List·Memᴰ·append-cases, Memᴰ·append-left, Memᴰ·append-right}
+use mathlib.Core.Bool.{Bool, true, false, not, cond, _&&_, false≢true, true≢false}
+use mathlib.Core.List.{List, [], _∷_, _++_, map, List·Memᴰ, List·Memᴰ·head, List·Memᴰ·tail, List·Memᴰ·cases-cons, List·Memᴰ·not-nil, List·Memᴰ·append-cases, Memᴰ·append-left, Memᴰ·append-right}
 use Prim.Native.Nat.{ℕ, max, _≤_}
 use native.Mathlib.Omega.{arith}
 use borrow.Author.Tests.{not-true}
@@ -15,7 +16,7 @@ use lib.ListN.{length, length-drop}
 use lib.Seq.{length-take-le}
 use Rattle.octets.specs.Text.{bytes}
 use Rattle.octets.specs.Search.{keep}
-use Rattle.octets.proofs.Counting.{keep-in, keep-out}
+use Rattle.octets.proofs.Counting.{keep-in, keep-out, member-map}
 use Rattle.encoding.specs.Hex.{hexText}
 use Rattle.client_registry.specs.Layout.{redirectRoom}
 use Rattle.client_registry.proofs.Clients.{redirect-most}
@@ -30,32 +31,11 @@ use Rattle.protocol.specs.Granting.{secondHandle, decisionOn}
 use Rattle.protocol.specs.Outcomes.{Handed}
 use Rattle.history.specs.Calls.{Call, authorization, token, handedTo, Event}
 use Rattle.history.specs.Server.{outcomeOf, resultOf, ours}
-use Rattle.history.specs.Contents.{Issue, valueOf, isExchange, codeIn, accessIn, refreshIn, firstTwenty, lastTwenty, issuedBy, isEndedBy, standingAfter, Contents, nothingYet, withEvent, withEvents}
+use Rattle.history.specs.Contents.{spent, Issue, isA, valueOf, isExchange, codeIn, accessIn, refreshIn, firstTwenty, lastTwenty, twenties, issuedBy, isSpentBy, asSpent, afterGrant, isWithdrawnBy, standingAfter, Contents, nothingYet, withEvent, withEvents}
 use Rattle.history.proofs.Readings.{second-last}
 use Rattle.history.proofs.AnyCall.{outcomeOn, asked, unfitTo, isPast, seen-past, past-buffers, past-registry, fit-size, planOn, granted-on}
 use Rattle.history.proofs.Asking.{ReadAs, refusedAs, exchangeAs, refreshAs, credentialsAs, token-read}
 use Rattle.history.proofs.Shown.{never-refused, code-text, access-text, refresh-text}
-
--- a list that grew by some, where those that pass a test went, or one that stayed
-module _ {A : Type 0} (x : A) (new old : List A) (ends : A → Bool) where
-  abbrev Came : Bool → Type 0
-  Came b = List·Memᴰ x (cond b new []) ⊎ (List·Memᴰ x old × ((b && ends x) ≡ false))
-
-  grown : (b : Bool) → List·Memᴰ x (cond b (new ++ keep (λ y. not (ends y)) old) old) ↔ Came b
-  grown true = (λ m. there (List·Memᴰ·append-cases new m), back)
-    where
-      there : List·Memᴰ x new ⊎ List·Memᴰ x (keep (λ y. not (ends y)) old) → Came true
-      there (inl m) = inl m
-      there (inr m) = let k = keep-out (λ y. not (ends y)) x old m in inr (k .0, not-true (ends x) (k .1))
-
-      back : Came true → List·Memᴰ x (new ++ keep (λ y. not (ends y)) old)
-      back (inl m) = Memᴰ·append-left (keep (λ y. not (ends y)) old) m
-      back (inr p) = Memᴰ·append-right new (keep-in (λ y. not (ends y)) x old (p .0) (ap not (p .1)))
-  grown false = (λ m. inr (m, refl), back)
-    where
-      back : Came false → List·Memᴰ x old
-      back (inl m) = absurd (List·Memᴰ·not-nil m)
-      back (inr p) = p .0
 
 -- ---- one event
 
@@ -63,78 +43,138 @@ module _ {A : Type 0} (x : A) (new old : List A) (ends : A → Bool) where
 abbrev isIssue : Event → Bool
 isIssue e = not (e .result .unfit) && e .result .granted
 
+map-in : {A B : Type 0} (f : A → B) (x : A) (l : List A) → List·Memᴰ x l → List·Memᴰ (f x) (map f l)
+map-in f x [] m = absurd (List·Memᴰ·not-nil m)
+map-in f x (y ∷ ys) m = by (List·Memᴰ·cases-cons m) (map-in f x ys)
+  where
+    by : (x ≡ y) ⊎ List·Memᴰ x ys → (List·Memᴰ x ys → List·Memᴰ (f x) (map f ys)) → List·Memᴰ (f x) (f y ∷ map f ys)
+    by (inl e) ih = List·Memᴰ·head (ap f e)
+    by (inr i) ih = List·Memᴰ·tail (ih i)
+
 module _ (clients : List Client) where
+  abbrev timeOf : Contents → Event → ℕ
+  timeOf c e = max (handedTo (e .call) .clock) (c .highest)
+
   -- what it issued, after calls that contain c
   unfoldable pub issuedIn : Contents → Event → List Issue
-  issuedIn c e = cond (isIssue e) (issuedBy clients (max (handedTo (e .call) .clock) (c .highest)) (c .standing) (e .call) (e .result)) []
+  issuedIn c e = cond (isIssue e) (issuedBy clients (timeOf c e) (c .standing) (e .call) (e .result)) []
 
-  -- whether it ended x
-  unfoldable pub endedIn : Event → Issue → Bool
-  endedIn e x = isIssue e && isEndedBy (e .call) x
+  -- whether it ended x: it exchanged the code x, or was a second showing that withdrew the token x
+  unfoldable pub endedIn : Contents → Event → Issue → Bool
+  endedIn c e x =
+      not (e .result .unfit)
+      && cond (e .result .granted) (isSpentBy (e .call) x) (isWithdrawnBy clients (timeOf c e) (c .standing) (e .call) x)
 
-  abbrev pub Unended : Issue → List Event → Type 0
-  Unended x es = (e : Event) → List·Memᴰ e es → endedIn e x ≡ false
+  unfoldable pub Unended : Contents → Issue → List Event → Type 0
+  Unended c x [] = Unit {0}
+  Unended c x (e ∷ es) = (endedIn c e x ≡ false) × Unended (withEvent clients e c) x es
 
   -- some call of the list issued x, and no later one ended it; c is what the calls before the list contain
   unfoldable pub Contained : Contents → Issue → List Event → Type 0
   Contained c x [] = ⊥
-  Contained c x (e ∷ es) = (List·Memᴰ x (issuedIn c e) × Unended x es) ⊎ Contained (withEvent clients e c) x es
+  Contained c x (e ∷ es) =
+      let after = withEvent clients e c in
+      (List·Memᴰ x (issuedIn c e) × Unended after x es) ⊎ Contained after x es
 
   -- ---- what stands after one event
 
-  after-event : (c : Contents) (e : Event) → let issued = issuedBy clients (max (handedTo (e .call) .clock) (c .highest)) (c .standing) in
-      withEvent clients e c .standing
-      ≡ cond (isIssue e) (issued (e .call) (e .result) ++ keep (λ x. not (isEndedBy (e .call) x)) (c .standing)) (c .standing)
-  unfolding withEvent standingAfter
-  after-event c e = by (e .result .unfit) (e .result .granted) _ _ _
-    where
-      by : (u g : Bool) (t : ℕ) (l : List Issue) (rs : List (List ℕ))
-          → cond u c (record { highest = t; standing = cond g l (c .standing); randoms = rs }) .standing ≡ cond (not u && g) l (c .standing)
-      by true g t l rs = refl
-      by false g t l rs = refl
+  module _ (x : Issue) (unspent : isA spent x ≡ false) where
+    -- a code that is exchanged is x no longer
+    kept-in : (call : Call) (l : List Issue) → List·Memᴰ x (map (afterGrant call) l) ↔ (List·Memᴰ x l × (isSpentBy call x ≡ false))
+    kept-in call l = (λ m. member-map (afterGrant call) Was l was x m refl, back)
+      where
+        Was : Issue → Type 0
+        Was y = y ≡ x → List·Memᴰ x l × (isSpentBy call x ≡ false)
 
-  entered : (c : Contents) (x : Issue) (e : Event)
-      → List·Memᴰ x (withEvent clients e c .standing) ↔ (List·Memᴰ x (issuedIn c e) ⊎ (List·Memᴰ x (c .standing) × (endedIn e x ≡ false)))
-  unfolding issuedIn endedIn
-  entered c x e = rw (after-event c e) (grown x _ (c .standing) (isEndedBy (e .call)) (isIssue e))
+        by : (y : Issue) → List·Memᴰ y l → (b : Bool) → isSpentBy call y ≡ b → cond b (asSpent y) y ≡ x → List·Memᴰ x l × (isSpentBy call x ≡ false)
+        by y m true q e = absurd (true≢false (ap (isA spent) e ∙ unspent))
+        by y m false q e = subst (λ (z : Issue). List·Memᴰ z l × (isSpentBy call z ≡ false)) e (m, q)
+
+        was : (y : Issue) → List·Memᴰ y l → Was (afterGrant call y)
+        was y m e = by y m (isSpentBy call y) refl e
+
+        back : List·Memᴰ x l × (isSpentBy call x ≡ false) → List·Memᴰ x (map (afterGrant call) l)
+        back p =
+            subst (λ (y : Issue). List·Memᴰ y (map (afterGrant call) l)) (ap (λ (b : Bool). cond b (asSpent x) x) (p .1)) (map-in (afterGrant call) x l (p .0))
+
+    abbrev Came : Contents → Event → Type 0
+    Came c e = List·Memᴰ x (issuedIn c e) ⊎ (List·Memᴰ x (c .standing) × (endedIn c e x ≡ false))
+
+    entered : (c : Contents) (e : Event) → List·Memᴰ x (withEvent clients e c .standing) ↔ Came c e
+    unfolding withEvent standingAfter issuedIn endedIn
+    entered c e = by (e .result .unfit) (e .result .granted)
+      where
+        issued : List Issue
+        issued = issuedBy clients (timeOf c e) (c .standing) (e .call) (e .result)
+
+        gone : Issue → Bool
+        gone = isWithdrawnBy clients (timeOf c e) (c .standing) (e .call)
+
+        grown : List Issue
+        grown = issued ++ map (afterGrant (e .call)) (c .standing)
+
+        thinned : List Issue
+        thinned = keep (λ y. not (gone y)) (c .standing)
+
+        Then : Bool → Bool → Type 0
+        Then unfit granted =
+            List·Memᴰ x (cond unfit c (record { highest = timeOf c e; standing = cond granted grown thinned; randoms = twenties (e .call) ++ c .randoms }) .standing)
+            ↔ (List·Memᴰ x (cond (not unfit && granted) issued [])
+            ⊎ (List·Memᴰ x (c .standing) × ((not unfit && cond granted (isSpentBy (e .call) x) (gone x)) ≡ false)))
+
+        by : (unfit granted : Bool) → Then unfit granted
+        by true granted = (λ m. inr (m, refl), back)
+          where
+            back : List·Memᴰ x [] ⊎ (List·Memᴰ x (c .standing) × (false ≡ false)) → List·Memᴰ x (c .standing)
+            back (inl m) = absurd (List·Memᴰ·not-nil m)
+            back (inr p) = p .0
+        by false true = (λ m. there (List·Memᴰ·append-cases issued m), back)
+          where
+            there : List·Memᴰ x issued ⊎ List·Memᴰ x (map (afterGrant (e .call)) (c .standing))
+                → List·Memᴰ x issued ⊎ (List·Memᴰ x (c .standing) × (isSpentBy (e .call) x ≡ false))
+            there (inl m) = inl m
+            there (inr m) = inr (kept-in (e .call) (c .standing) .0 m)
+
+            back : List·Memᴰ x issued ⊎ (List·Memᴰ x (c .standing) × (isSpentBy (e .call) x ≡ false)) → List·Memᴰ x grown
+            back (inl m) = Memᴰ·append-left (map (afterGrant (e .call)) (c .standing)) m
+            back (inr p) = Memᴰ·append-right issued (kept-in (e .call) (c .standing) .1 p)
+        by false false = (λ m. let k = keep-out (λ y. not (gone y)) x (c .standing) m in inr (k .0, not-true (gone x) (k .1)), back)
+          where
+            back : List·Memᴰ x [] ⊎ (List·Memᴰ x (c .standing) × (gone x ≡ false)) → List·Memᴰ x thinned
+            back (inl m) = absurd (List·Memᴰ·not-nil m)
+            back (inr p) = keep-in (λ y. not (gone y)) x (c .standing) (p .0) (ap not (p .1))
 
   -- ---- and after a list of them
 
-  unended-more : (x : Issue) (e : Event) (es : List Event) → endedIn e x ≡ false → Unended x es → Unended x (e ∷ es)
-  unended-more x e es h u f m = by (List·Memᴰ·cases-cons m)
-    where
-      by : (f ≡ e) ⊎ List·Memᴰ f es → endedIn f x ≡ false
-      by (inl p) = ap (λ (k : Event). endedIn k x) p ∙ h
-      by (inr i) = u f i
-
   abbrev Stood : Contents → Issue → List Event → Type 0
-  Stood c x es = (List·Memᴰ x (c .standing) × Unended x es) ⊎ Contained c x es
+  Stood c x es = (List·Memᴰ x (c .standing) × Unended c x es) ⊎ Contained c x es
 
-  stood : (c : Contents) (x : Issue) (es : List Event) → List·Memᴰ x (withEvents clients c es .standing) ↔ Stood c x es
-  unfolding withEvents Contained
-  stood c x [] = (λ m. inl (m, λ e i. absurd (List·Memᴰ·not-nil i)), back)
+  stood : (x : Issue) → isA spent x ≡ false → (c : Contents) (es : List Event) → List·Memᴰ x (withEvents clients c es .standing) ↔ Stood c x es
+  unfolding withEvents Contained Unended
+  stood x unspent c [] = (λ m. inl (m, tt), back)
     where
-      back : (List·Memᴰ x (c .standing) × Unended x []) ⊎ ⊥ → List·Memᴰ x (c .standing)
+      back : (List·Memᴰ x (c .standing) × Unit {0}) ⊎ ⊥ → List·Memᴰ x (c .standing)
       back (inl p) = p .0
       back (inr k) = absurd k
-  stood c x (e ∷ es) = let r = stood (withEvent clients e c) x es in (λ m. there (r .0 m), λ k. r .1 (back k))
+  stood x unspent c (e ∷ es) = let r = stood x unspent (withEvent clients e c) es in (λ m. there (r .0 m), λ k. r .1 (back k))
     where
-      split : List·Memᴰ x (issuedIn c e) ⊎ (List·Memᴰ x (c .standing) × (endedIn e x ≡ false)) → Unended x es → Stood c x (e ∷ es)
+      split : Came x unspent c e → Unended (withEvent clients e c) x es → Stood c x (e ∷ es)
       split (inl i) u = inr (inl (i, u))
-      split (inr p) u = inl (p .0, unended-more x e es (p .1) u)
+      split (inr p) u = inl (p .0, (p .1, u))
 
       there : Stood (withEvent clients e c) x es → Stood c x (e ∷ es)
-      there (inl p) = split (entered c x e .0 (p .0)) (p .1)
+      there (inl p) = split (entered x unspent c e .0 (p .0)) (p .1)
       there (inr k) = inr (inr k)
 
       back : Stood c x (e ∷ es) → Stood (withEvent clients e c) x es
-      back (inl p) = inl (entered c x e .1 (inr (p .0, p .1 e (List·Memᴰ·head refl))), λ f i. p .1 f (List·Memᴰ·tail i))
-      back (inr (inl p)) = inl (entered c x e .1 (inl (p .0)), p .1)
+      back (inl p) = inl (entered x unspent c e .1 (inr (p .0, p .1 .0)), p .1 .1)
+      back (inr (inl p)) = inl (entered x unspent c e .1 (inl (p .0)), p .1)
       back (inr (inr k)) = inr k
 
-  -- an issue stands exactly when some call issued it and no later call ended it
-  pub standing-means : (x : Issue) (es : List Event) → List·Memᴰ x (withEvents clients nothingYet es .standing) ↔ Contained nothingYet x es
-  standing-means x es = let s = stood nothingYet x es in (λ m. there (s .0 m), λ k. s .1 (inr k))
+  -- a code that is not spent, or a token, stands exactly when some call issued it and no later call exchanged or withdrew it
+  pub standing-means : (x : Issue) → isA spent x ≡ false → (es : List Event)
+      → List·Memᴰ x (withEvents clients nothingYet es .standing) ↔ Contained nothingYet x es
+  standing-means x unspent es = let s = stood x unspent nothingYet es in (λ m. there (s .0 m), λ k. s .1 (inr k))
     where
       there : Stood nothingYet x es → Contained nothingYet x es
       there (inl p) = absurd (List·Memᴰ·not-nil (p .0))

@@ -2,14 +2,14 @@
 -- check passes, exactly when something live stands that answers it, and there is room (`exchange-answer`, `refresh-answer`,
 -- `credentials-answer`, `check-passes`).
 --
--- In order: which reasons did not apply; what is issued; each request that is granted; any request; room; no handle that comes once is
--- in use; an exchange, a refresh and a check.
+-- In order: which reasons did not apply; what is issued, spent and withdrawn; each request that is granted, and that is refused; any
+-- request; room; no handle that comes once is in use; an exchange, a refresh and a check.
 --
 -- `slots` are the store's at the time t, `standing` what stands by the calls, `seen` the random bytes that came with them.
 -- Assumes nothing.
-use mathlib.Core.Path.{_≡_, refl, sym, ap, ap₂, _∙_}
-use mathlib.Core.Bool.{Bool, true, false, cond, _&&_, false≢true, not, _||_, and-assoc, and-true, and-false, Bool·not-not}
-use mathlib.Core.List.{List, [], _∷_, _++_, List·Memᴰ}
+use mathlib.Core.Path.{_≡_, refl, sym, ap, ap₂, _∙_, subst}
+use mathlib.Core.Bool.{Bool, true, false, cond, _&&_, false≢true, not, _||_, and-assoc, and-true, and-false, or-true, Bool·not-not}
+use mathlib.Core.List.{List, [], _∷_, _++_, map, List·Memᴰ}
 use Prim.Native.Nat.{ℕ, _≤_, _+_, _-_}
 use native.Mathlib.Omega.{arith}
 use borrow.Author.Tests.{leb-true, not-false, leb-false, le-leb, lt-leb}
@@ -20,10 +20,10 @@ use Rattle.octets.proofs.Lists.{same-refl}
 use Rattle.encoding.specs.Hex.{readHandle, isHandleText}
 use Rattle.encoding.specs.declared.HandleText.{HandleText}
 use Rattle.octets.specs.Search.{count, bit, any, keep, firstOr}
-use Rattle.token_store.specs.Store.{issue, isLive, isBoundCode, isSought, holds, soughtKey, freeSlot}
+use Rattle.token_store.specs.Store.{kindAccess, kindRefresh, issue, isLive, isBoundCode, isToken, isSought, holds, shows, soughtKey, freeSlot, comesFrom, withoutTokens}
 use Rattle.token_store.specs.declared.Slot.{Slot}
 use Rattle.token_store.specs.declared.Sought.{Sought}
-use Rattle.token_store.specs.declared.Sought.the-variants.{Code as soughtCode, Refresh as soughtRefresh, Access as soughtAccess}
+use Rattle.token_store.specs.declared.Sought.the-variants.{Code as soughtCode, Spent as soughtSpent, Refresh as soughtRefresh, Access as soughtAccess}
 use Rattle.token_store.specs.Layout.{slotCount}
 use Rattle.token_store.proofs.Slots.{free-dead}
 use Rattle.protocol.specs.declared.Refusal.{Refusal}
@@ -39,32 +39,43 @@ use Rattle.protocol.specs.declared.CheckAnswer.the-variants.{NotLive, Live}
 use Rattle.protocol.specs.Answers.{isGrant}
 use Rattle.protocol.specs.Refusals.{Reason, when, firstOf as firstReason}
 use Rattle.protocol.specs.Requests.{scopeGiven, fits}
-use Rattle.protocol.specs.Granting.{Plan, firstHandle, secondHandle, shownSlot, withoutCode, room, newCode, refusedPlan, codePlan, exchangePlan, refreshPlan, credentialsPlan, planFor, decisionOn, slotsBy, slotsAfter, isTaken, anyTaken, liveToken, checkSlots}
+use Rattle.protocol.specs.Granting.{Plan, firstHandle, secondHandle, shownSlot, withSpent, room, tokenOn, newCode, refusedPlan, codePlan, exchangePlan, refreshPlan, credentialsPlan, planFor, decisionOn, slotsBy, slotsAfter, isTaken, anyTaken, liveToken, checkSlots}
 use Rattle.protocol.proofs.Reasons.{grant-every, unrefused}
 use Rattle.history.specs.Contents.{Sort, code, access, refresh, lifetime, NeverTwice}
 use Rattle.history.specs.Server.{isLiveCheck}
-use Rattle.octets.proofs.Counting.{bit-le, count-append, keep-all, bit-none, any-count, count-keep}
-use Rattle.history.proofs.HeldIssues.{Handle, Held, asSlot}
-use Rattle.history.proofs.Invariant.{originHeld, Invariant, invariant-seen, invariant-issue, room-left, origin, withdrawn, contained, found}
+use Rattle.octets.proofs.Counting.{bit-le, count-append, bit-none, any-count, firstOr-passes, firstOr-none}
+use Rattle.history.proofs.HeldIssues.{Handle, Held, asSlot, token-origin}
+use Rattle.history.proofs.Invariant.{originHeld, spendHeld, Invariant, invariant-seen, invariant-issue, invariant-withdraw, room-left, room-spent, origin, contained, found, spent-kept, shown-again}
 use Rattle.history.proofs.Readings.{onlyOf, firstOf, secondOf, Brings}
 
 -- ---- what is granted
 
--- an empty text shows no slot
-none-shown : (q : Sought) (slots : List Slot) → shownSlot q (readHandle []) slots ≡ freeSlot
-unfolding firstOr readHandle isHandleText
-none-shown q [] = refl
-none-shown q (s ∷ slots) = rw (and-false (isSought q s)) (none-shown q slots)
+-- a text that is no handle's shows no slot
+pub none-shown : (q : Sought) (p : HandleText) (slots : List Slot) → p .valid ≡ false → shownSlot q p slots ≡ freeSlot
+unfolding firstOr
+none-shown q p [] e = refl
+none-shown q p (s ∷ slots) e =
+    let none : soughtKey q p s ≡ false = ap (λ (v : Bool). isSought q s && (v && same (p .bytes) (s .handle))) e ∙ and-false (isSought q s) in
+    ap (λ (b : Bool). cond b s (shownSlot q p slots)) none ∙ none-shown q p slots e
 
--- so that there is nothing to grant
+-- what is found live was sought
+pub shown-key : (t : ℕ) (slots : List Slot) (q : Sought) (p : HandleText) → isLive t (shownSlot q p slots) ≡ true
+    → soughtKey q p (shownSlot q p slots) ≡ true
+shown-key t slots q p live = by (any (soughtKey q p) slots) refl
+  where
+    by : (b : Bool) → any (soughtKey q p) slots ≡ b → soughtKey q p (shownSlot q p slots) ≡ true
+    by true e = firstOr-passes (soughtKey q p) freeSlot slots e
+    by false e = absurd (false≢true (sym (free-dead t) ∙ ap (isLive t) (sym (firstOr-none (soughtKey q p) freeSlot slots e)) ∙ live))
+
+-- so that where nothing is presented there is nothing to grant
 module _ (t : ℕ) (slots : List Slot) (random : List ℕ) where
   pub exchange-none : (r : ExchangeRequest) → isGrant (decisionOn (planFor t slots random (readHandle []) (Exchange r))) ≡ false
-  unfolding planFor exchangePlan firstReason isGrant
-  exchange-none r = rw (none-shown soughtCode slots, free-dead t)
+  unfolding planFor exchangePlan firstReason isGrant readHandle isHandleText
+  exchange-none r = rw (none-shown soughtCode (readHandle []) slots refl, free-dead t)
 
   pub refresh-none : (r : RefreshRequest) → isGrant (decisionOn (planFor t slots random (readHandle []) (Refresh r))) ≡ false
-  unfolding planFor refreshPlan firstReason isGrant
-  refresh-none r = rw (none-shown soughtRefresh slots, free-dead t)
+  unfolding planFor refreshPlan firstReason isGrant readHandle isHandleText
+  refresh-none r = rw (none-shown soughtRefresh (readHandle []) slots refl, free-dead t)
 
 module _ (t : ℕ) (slots : List Slot) (random : List ℕ) (p : HandleText) where
   abbrev pub Granted : Request → Type 0
@@ -79,12 +90,12 @@ module _ (t : ℕ) (slots : List Slot) (random : List ℕ) (p : HandleText) wher
 
   -- what is presented is live, and there is room
   pub exchange-has : (r : ExchangeRequest) → Granted (Exchange r)
-      → (isLive t (shownSlot soughtCode p slots) ≡ true) × (2 ≤ room t (withoutCode p slots))
+      → (isLive t (shownSlot soughtCode p slots) ≡ true) × (2 ≤ room t slots)
   unfolding planFor exchangePlan
   exchange-has r e =
       let no = unrefused (exchangePlan t slots random p r .reasons) e in (
         own-live (r .client) (shownSlot soughtCode p slots) (not-false _ (no 0 (lit< tt))),
-        leb-true 2 (room t (withoutCode p slots)) (not-false _ (no 2 (lit< tt))),
+        leb-true 2 (room t slots) (not-false _ (no 2 (lit< tt))),
       )
 
   pub refresh-has : (r : RefreshRequest) → Granted (Refresh r) → (isLive t (shownSlot soughtRefresh p slots) ≡ true) × (1 ≤ room t slots)
@@ -94,15 +105,6 @@ module _ (t : ℕ) (slots : List Slot) (random : List ℕ) (p : HandleText) wher
         own-live (r .client) (shownSlot soughtRefresh p slots) (not-false _ (no 0 (lit< tt))),
         leb-true 1 (room t slots) (not-false _ (no 2 (lit< tt))),
       )
-
-  -- a refusal leaves the slots
-  pub denied-slots : (request : Request) → planFor t slots random p request .denied ≡ slots
-  unfolding planFor refusedPlan codePlan exchangePlan refreshPlan credentialsPlan
-  denied-slots (Refused r) = refl
-  denied-slots (Code r) = refl
-  denied-slots (Exchange r) = refl
-  denied-slots (Refresh r) = refl
-  denied-slots (Credentials r) = refl
 
 -- ---- what is issued
 
@@ -115,18 +117,20 @@ codeHeld t handle r = record {
   farm = r .farm;
   scope = r .scope;
   expiry = t + lifetime code;
+  origin = handle;
 }
 
--- a token of a sort, on the code or refresh token `origin`
-abbrev pub tokenHeld : Sort → ℕ → Handle → Held → ℕ → Held
-tokenHeld sort t handle origin scope = record {
+-- a token of a sort, on the code or refresh token `shown`, from the code of the handle `origin`
+abbrev pub tokenHeld : Sort → ℕ → Handle → Held → Handle → ℕ → Held
+tokenHeld sort t handle shown origin scope = record {
   sort = sort;
   bound = false;
   handle = handle;
-  client = origin .client;
-  farm = origin .farm;
+  client = shown .client;
+  farm = shown .farm;
   scope = scope;
   expiry = t + lifetime sort;
+  origin = origin;
 }
 
 -- a client's, for itself
@@ -139,6 +143,7 @@ clientHeld t handle r = record {
   farm = 0;
   scope = r .scope;
   expiry = t + lifetime access;
+  origin = handle;
 }
 
 module _ (t : ℕ) (standing : List Held) (clients : ℕ) (random : List ℕ) (twenties : List (List ℕ)) (p : HandleText) where
@@ -148,22 +153,36 @@ module _ (t : ℕ) (standing : List Held) (clients : ℕ) (random : List ℕ) (t
   issuedHeld (Refused r) q = []
   issuedHeld (Code r) q = codeHeld t (onlyOf (q .0)) r ∷ []
   issuedHeld (Exchange r) q =
-      let o = originHeld code p standing in tokenHeld refresh t (secondOf q) o (o .scope) ∷ tokenHeld access t (firstOf q) o (o .scope) ∷ []
+      let o = originHeld code p standing in
+      tokenHeld refresh t (secondOf q) o (o .handle) (o .scope) ∷ tokenHeld access t (firstOf q) o (o .handle) (o .scope) ∷ []
   issuedHeld (Refresh r) q =
-      let o = originHeld refresh p standing in tokenHeld access t (firstOf (q .0)) o (scopeGiven (r .scope) (o .scope)) ∷ []
+      let o = originHeld refresh p standing in tokenHeld access t (firstOf (q .0)) o (o .origin) (scopeGiven (r .scope) (o .scope)) ∷ []
   issuedHeld (Credentials r) q = clientHeld t (firstOf (q .0)) r ∷ []
 
-  -- and what it ends
-  unfoldable pub isEndedHeld : Request → Held → Bool
-  isEndedHeld (Refused r) e = false
-  isEndedHeld (Code r) e = false
-  isEndedHeld (Exchange r) e = soughtKey soughtCode p (asSlot e)
-  isEndedHeld (Refresh r) e = false
-  isEndedHeld (Credentials r) e = false
+  -- and what it leaves of what stood
+  unfoldable pub keptHeld : Request → List Held
+  keptHeld (Refused r) = standing
+  keptHeld (Code r) = standing
+  keptHeld (Exchange r) = map (spendHeld p) standing
+  keptHeld (Refresh r) = standing
+  keptHeld (Credentials r) = standing
 
   -- what stands after it
   abbrev pub heldAfter : (request : Request) → Brings clients random twenties request → List Held
-  heldAfter request q = issuedHeld request q ++ keep (λ e. not (isEndedHeld request e)) standing
+  heldAfter request q = issuedHeld request q ++ keptHeld request
+
+-- a spent code of a client's that is live
+abbrev pub isShownHeld : ℕ → HandleText → ExchangeRequest → Held → Bool
+isShownHeld t p r e = isLive t (asSlot e) && (soughtKey soughtSpent p (asSlot e) && eqb (e .client) (r .client))
+
+-- what stands after a request that is refused
+unfoldable pub heldAfterRefusal : ℕ → List Held → HandleText → Request → List Held
+heldAfterRefusal t standing p (Refused r) = standing
+heldAfterRefusal t standing p (Code r) = standing
+heldAfterRefusal t standing p (Exchange r) =
+    cond (any (isShownHeld t p r) standing) (keep (λ e. not (comesFrom (p .bytes) (asSlot e))) standing) standing
+heldAfterRefusal t standing p (Refresh r) = standing
+heldAfterRefusal t standing p (Credentials r) = standing
 
 code-slot : (t : ℕ) (handle : Handle) (r : CodeRequest) → newCode t (handle .octets) r ≡ asSlot (codeHeld t handle r)
 code-slot t handle r = by (r .bound)
@@ -191,36 +210,70 @@ module _ {t : ℕ} {slots : List Slot} {standing : List Held} {seen : List (List
 
   granted-kept : (request : Request) (q : Brings clients random twenties request) → Granted t slots random p request
       → Invariant t (plan request .granted) (heldAfter t standing clients random twenties p request q) (twenties ++ seen)
-  unfolding planFor refusedPlan codePlan exchangePlan refreshPlan credentialsPlan issuedHeld isEndedHeld Brings count
+  unfolding planFor refusedPlan codePlan exchangePlan refreshPlan credentialsPlan issuedHeld keptHeld Brings count
   granted-kept (Refused r) q e = absurd (false≢true (sym (unrefused (refusedPlan t slots random r .reasons) e 0 (lit< tt))))
   granted-kept (Code r) q e =
-      rw (q .0 .handles, keep-all, code-slot t (onlyOf (q .0)) r) (invariant-issue v (codeHeld t (onlyOf (q .0)) r) (one-slot t slots random p _ _ e))
+      rw (q .0 .handles, code-slot t (onlyOf (q .0)) r) (invariant-issue v (codeHeld t (onlyOf (q .0)) r) (one-slot t slots random p _ _ e))
   granted-kept (Exchange r) q e =
       let o = originHeld code p standing in
       let has = exchange-has t slots random p r e in
-      rw (q .handles, ← (origin v once code p (has .0)))
-      (two-issues (tokenHeld access t (firstOf q) o (o .scope)) (tokenHeld refresh t (secondOf q) o (o .scope)) (withdrawn v once code p) (has .1))
+      let roomy : 2 ≤ room t (withSpent p slots) = omega (arith, room-spent v once p, has .1) in
+      let on : Slot → ℕ → List ℕ → Slot = λ s kind handle. tokenOn s (s .handle) t kind handle (s .scope) in
+      let both =
+      two-issues (tokenHeld access t (firstOf q) o (o .handle) (o .scope)) (tokenHeld refresh t (secondOf q) o (o .handle) (o .scope))
+      (spent-kept v once p) roomy
+      in
+      rw (q .handles)
+      (subst
+      (λ (s : Slot). Invariant t
+      (issue t (on s kindRefresh (secondHandle random)) (issue t (on s kindAccess (firstHandle random)) (withSpent p slots)))
+      (heldAfter t standing clients random twenties p (Exchange r) q) (firstHandle random ∷ secondHandle random ∷ seen))
+      (origin v once code p (has .0)) both)
   granted-kept (Refresh r) q e =
       let o = originHeld refresh p standing in
+      let s = shownSlot soughtRefresh p slots in
       let has = refresh-has t slots random p r e in
-      rw (q .0 .handles, ← (origin v once refresh p (has .0)), keep-all)
-      (invariant-seen (invariant-issue v (tokenHeld access t (firstOf (q .0)) o (scopeGiven (r .scope) (o .scope))) (has .1)) _ (λ k. omega arith))
+      let same-slot = origin v once refresh p (has .0) in
+      let sought = and-left (isSought soughtRefresh s) (shows p s) (shown-key t slots soughtRefresh p (has .0)) in
+      let token : isToken s ≡ true = ap (λ (b : Bool). eqb (s .kind) kindAccess || b) sought ∙ or-true (eqb (s .kind) kindAccess) in
+      let origin-is = token-origin o (subst (λ (x : Slot). isToken x ≡ true) (sym same-slot) token) in
+      let one = invariant-issue v (tokenHeld access t (firstOf (q .0)) o (o .origin) (scopeGiven (r .scope) (o .scope))) (has .1) in
+      let Kept : Slot → List ℕ → Type 0 = λ x from.
+      Invariant t (issue t (tokenOn x from t kindAccess (firstHandle random) (scopeGiven (r .scope) (x .scope))) slots)
+      (heldAfter t standing clients random twenties p (Refresh r) q) (firstHandle random ∷ secondHandle random ∷ seen)
+      in
+      rw (q .0 .handles)
+      (subst (λ (x : Slot). Kept x (x .origin)) same-slot
+      (subst (Kept (asSlot o)) (sym origin-is) (invariant-seen one (firstHandle random ∷ secondHandle random ∷ seen) (λ k. omega arith))))
   granted-kept (Credentials r) q e =
-      rw (q .0 .handles, keep-all)
+      rw (q .0 .handles)
       (invariant-seen (invariant-issue v (clientHeld t (firstOf (q .0)) r) (one-slot t slots random p _ _ e)) _ (λ k. omega arith))
 
+  denied-kept : (request : Request) → Invariant t (plan request .denied) (heldAfterRefusal t standing p request) seen
+  unfolding planFor refusedPlan codePlan exchangePlan refreshPlan credentialsPlan heldAfterRefusal
+  denied-kept (Refused r) = v
+  denied-kept (Code r) = v
+  denied-kept (Exchange r) = rw (shown-again v once p (r .client)) (by (any (isShownHeld t p r) standing))
+    where
+      by : (b : Bool)
+          → Invariant t (cond b (withoutTokens (p .bytes) slots) slots) (cond b (keep (λ e. not (comesFrom (p .bytes) (asSlot e))) standing) standing) seen
+      by true = invariant-withdraw v (comesFrom (p .bytes))
+      by false = v
+  denied-kept (Refresh r) = v
+  denied-kept (Credentials r) = v
+
   pub request-kept : (request : Request) (q : Brings clients random twenties request)
-      → Invariant t (slotsAfter (plan request)) (cond (isGrant (decisionOn (plan request))) (heldAfter t standing clients random twenties p request q) standing)
+      → Invariant t (slotsAfter (plan request))
+      (cond (isGrant (decisionOn (plan request))) (heldAfter t standing clients random twenties p request q) (heldAfterRefusal t standing p request))
       (twenties ++ seen)
   unfolding slotsBy isGrant
   request-kept request q = by (decisionOn (plan request)) (granted-kept request q)
     where
       by : (d : Decision) → (isGrant d ≡ true → Invariant t (plan request .granted) (heldAfter t standing clients random twenties p request q) (twenties ++ seen))
-          → Invariant t (slotsBy d (plan request)) (cond (isGrant d) (heldAfter t standing clients random twenties p request q) standing) (twenties ++ seen)
+          → Invariant t (slotsBy d (plan request))
+          (cond (isGrant d) (heldAfter t standing clients random twenties p request q) (heldAfterRefusal t standing p request)) (twenties ++ seen)
       by Grant f = f refl
-      by (Refuse r) f =
-          rw (denied-slots t slots random p request)
-          (invariant-seen v (twenties ++ seen) (λ h. omega (arith, count-append (same h) twenties seen)))
+      by (Refuse r) f = invariant-seen (denied-kept request) (twenties ++ seen) (λ h. omega (arith, count-append (same h) twenties seen))
 
 -- ---- room
 
@@ -252,9 +305,9 @@ isRefreshableHeld t p r e =
 
 module _ {t : ℕ} {slots : List Slot} {standing : List Held} {seen : List (List ℕ)} (v : Invariant t slots standing seen) (once : NeverTwice seen)
     (p : HandleText) where
-  -- room for one more
-  room-one : leb 1 (room t slots) ≡ leb (count (λ e. isLive t (asSlot e)) standing + 1) 512
-  room-one = leb-room 1 (room t slots) (count (λ e. isLive t (asSlot e)) standing) (room-left v)
+  -- room for k more
+  room-for : (k : ℕ) → leb k (room t slots) ≡ leb (count (λ e. isLive t (asSlot e)) standing + k) 512
+  room-for k = leb-room k (room t slots) (count (λ e. isLive t (asSlot e)) standing) (room-left v)
 
   -- ---- no handle that comes once is in use
 
@@ -277,12 +330,12 @@ module _ {t : ℕ} {slots : List Slot} {standing : List Held} {seen : List (List
     -- ---- what each request is answered
 
     pub exchange-answer : (r : ExchangeRequest) → isGrant (decisionOn (planFor t slots random p (Exchange r)))
-        ≡ (any (isExchangeableHeld t p r) standing && leb (count (λ e. isLive t (asSlot e) && not (soughtKey soughtCode p (asSlot e))) standing + 2) 512)
+        ≡ (any (isExchangeableHeld t p r) standing && leb (count (λ e. isLive t (asSlot e)) standing + 2) 512)
     unfolding planFor exchangePlan every
     exchange-answer r =
         grant-every (exchangePlan t slots random p r .reasons)
         ∙ four-tests (isLive t s) (eqb (s .client) (r .client)) (not (isBoundCode s) || r .again) _ (not-or (isBoundCode s) (r .again)) none-taken
-        ∙ ap₂ _&&_ (sym there) space
+        ∙ ap₂ _&&_ (sym there) (room-for 2)
       where
         s : Slot
         s = shownSlot soughtCode p slots
@@ -290,20 +343,13 @@ module _ {t : ℕ} {slots : List Slot} {standing : List Held} {seen : List (List
         there : any (isExchangeableHeld t p r) standing ≡ (isLive t s && (eqb (s .client) (r .client) && (not (isBoundCode s) || r .again)))
         there = contained v once code p (λ x. eqb (x .client) (r .client) && (not (isBoundCode x) || r .again))
 
-        space : leb 2 (room t (withoutCode p slots))
-            ≡ leb (count (λ e. isLive t (asSlot e) && not (soughtKey soughtCode p (asSlot e))) standing + 2) 512
-        space =
-            leb-room 2 (room t (withoutCode p slots)) _ (room-left (withdrawn v once code p))
-            ∙ ap (λ (k : ℕ). leb (k + 2) slotCount)
-            (count-keep (λ e. isLive t (asSlot e)) (λ e. not (soughtKey soughtCode p (asSlot e))) standing)
-
     pub refresh-answer : (r : RefreshRequest) → isGrant (decisionOn (planFor t slots random p (Refresh r)))
         ≡ (any (isRefreshableHeld t p r) standing && leb (count (λ e. isLive t (asSlot e)) standing + 1) 512)
     unfolding planFor refreshPlan every
     refresh-answer r =
         grant-every (refreshPlan t slots random p r .reasons)
         ∙ four-tests (isLive t s) (eqb (s .client) (r .client)) (fits (r .scope) (s .scope)) _ (Bool·not-not _) first-unused
-        ∙ ap₂ _&&_ (sym there) room-one
+        ∙ ap₂ _&&_ (sym there) (room-for 1)
       where
         s : Slot
         s = shownSlot soughtRefresh p slots
@@ -315,7 +361,7 @@ module _ {t : ℕ} {slots : List Slot} {standing : List Held} {seen : List (List
         ≡ leb (count (λ e. isLive t (asSlot e)) standing + 1) 512
     unfolding planFor credentialsPlan every
     credentials-answer r =
-        grant-every (credentialsPlan t slots random r .reasons) ∙ rw first-unused (simp (Bool·not-not, and-true)) ∙ room-one
+        grant-every (credentialsPlan t slots random r .reasons) ∙ rw first-unused (simp (Bool·not-not, and-true)) ∙ room-for 1
 
   -- ---- the check
 

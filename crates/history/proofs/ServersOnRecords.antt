@@ -4,16 +4,16 @@
 -- claim, tests that compute and say that it is false at a call; that the claim is false when they pass.
 -- Assumes nothing.
 use mathlib.Core.Path.{_≡_, refl, sym, ap, ap₂, _∙_, subst}
-use mathlib.Core.Bool.{Bool, true, false, not, _&&_, Bool·beq, false≢true, true≢false}
+use mathlib.Core.Bool.{Bool, true, false, cond, not, _&&_, Bool·beq, false≢true, true≢false}
 use mathlib.Core.Logic.{_⊎_, inl, inr}
 use mathlib.Core.List.{List, [], _∷_, _++_, List·Memᴰ, List·Memᴰ·head, List·Memᴰ·tail}
-use Prim.Native.Nat.{ℕ, _-_, _<_, max}
+use Prim.Native.Nat.{ℕ, _+_, _*_, _-_, _<_, max}
 use native.Mathlib.Omega.{arith}
 use borrow.Author.Tests.{eq-eqb, not-true}
 use lib.Dec.{eqb}
-use lib.ListN.{getD, length}
+use lib.ListN.{getD, length, replicate}
 use lib.Seq.{sets}
-use Rattle.octets.specs.Lists.{Bytes, every}
+use Rattle.octets.specs.Lists.{Bytes, every, part}
 use Rattle.octets.specs.Search.{any}
 use Rattle.octets.specs.Text.{bytes}
 use Rattle.octets.proofs.Booleans.{and-left, and-right, or-cases}
@@ -30,9 +30,10 @@ use Rattle.protocol.specs.declared.LiveToken.{LiveToken}
 use Rattle.protocol.specs.Token.{tokenReply, refreshMember}
 use Rattle.protocol.specs.Outcomes.{Handed}
 use Rattle.protocol.specs.Authorization.{location, codeParameter}
-use Rattle.history.specs.Calls.{Call, token, check, WellTyped, AllWellTyped, Result, Event, Server, storeAfterAll, events, authorization}
-use Rattle.history.specs.Contents.{access, Issue, isA, isLiveAt, isOf, isExchange, Contents, nothingYet, withEvents, twenties, code, refresh, originOf, valueOf, askedOr, firstTwenty, lastTwenty, isRefresh, isCredentials, caller}
-use Rattle.history.specs.Claim.{Answers, isAdmitted, mayExchange, contained, next, Judged, Demand3, CredentialsYield, mayRefresh, mayHaveOwn, mayPass, Asks}
+use Rattle.history.specs.Calls.{Call, token, check, handedTo, WellTyped, AllWellTyped, Result, Event, Server, storeAfterAll, events, freshStore, authorization}
+use Rattle.history.specs.Slots.{holdsTokenFrom}
+use Rattle.history.specs.Contents.{access, Issue, isA, isLiveAt, isOf, isExchange, Contents, nothingYet, withEvents, twenties, code, refresh, originOf, valueOf, askedOr, firstTwenty, lastTwenty, isRefresh, isCredentials, caller, isAdmitted, isSecondShowing, codeShown}
+use Rattle.history.specs.Claim.{Answers, mayExchange, contained, next, Judged, Demand3, CredentialsYield, mayRefresh, mayHaveOwn, mayPass, Asks}
 use Rattle.history.proofs.SoundStores.{sound-back, sound-fresh}
 use Rattle.history.proofs.AllCalls.{fresh-bytes}
 use Rattle.history.proofs.CallsOnRecords.{isFitting}
@@ -170,9 +171,16 @@ module _ (k : Contents) (r : Result) where
         judgedAnd (authorization query decision farm handed)
         (r .granted ∷ not (eqb (r .length) (length (codeText query handed sampleClients))) ∷ [])
 
--- a refused call changes the kind of a slot, by the stores before and after
-abbrev pub spendsSlot : Call → Result → Store → Store → ℕ → List Bool
-spendsSlot c r before after i = isFitting c ∷ not (r .granted) ∷ not (eqb (slotOf before i .kind) (slotOf after i .kind)) ∷ []
+-- a refused call, which is no second showing, changes the kind of a slot, by the stores before and after
+abbrev pub spendsSlot : Contents → Call → Result → Store → Store → ℕ → List Bool
+spendsSlot k c r before after i =
+    isFitting c
+    ∷ not (r .unfit)
+    ∷ distinct (twenties c ++ k .randoms)
+    ∷ not (r .granted)
+    ∷ not (isSecondShowing sampleClients (max (handedTo c .clock) (k .highest)) (k .standing) c)
+    ∷ not (eqb (slotOf before i .kind) (slotOf after i .kind))
+    ∷ []
 
 -- ---- the claim is then false
 
@@ -352,18 +360,21 @@ module _ {server : Server} {m : Model} (f : Follows server m) (cs : List Call) (
         unequal (resultAfter owner .length) (length (text sampleClients)) (answers (h 0) (h 1) (h 2) (h 3) d .ends) (h 4)
 
   pub spend-fails : (c : Call) → WellTyped c → (i : ℕ) → i < slotCount
-      → let g = leftAfter m fresh cs in all (spendsSlot c (resultAfter c) g (m .left g c) i) ≡ true
+      → let g = leftAfter m fresh cs in all (spendsSlot k c (resultAfter c) g (m .left g c) i) ≡ true
       → Demand3 server sampleRegistry cs → ⊥
   spend-fails c t i below e d =
       let g = leftAfter m fresh cs in
       let after = m .left g c in
-      let h = each (spendsSlot c (resultAfter c) g after i) e in
+      let h = each (spendsSlot k c (resultAfter c) g after i) e in
       let sound = followed .sound in
-      let refused = ap (λ (r : Result). r .granted) (result-is c t (h 0)) ∙ not-true (resultAfter c .granted) (h 1) in
+      let was = part (storeAfterAll server sampleRegistry freshStore cs) (8 + i * 55) 55 in
+      let refused = ap (λ (r : Result). r .granted) (result-is c t (h 0)) ∙ not-true (resultAfter c .granted) (h 3) in
+      let second : List Client → Contents → Bool = λ clients x. isSecondShowing clients (max (handedTo c .clock) (x .highest)) (x .standing) c in
+      let none = ap₂ second sample-clients contained-is ∙ not-true (second sampleClients k) (h 4) in
       let kept : slotBytes (encode g) i ≡ slotBytes (encode after) i =
       sym (ap (λ (b : List ℕ). slotBytes b i) (ap (λ (b : List ℕ). storeAfterAll server sampleRegistry b cs) fresh-bytes ∙ followed .same-store))
-      ∙ sym (d .spendsNothing c refused i (omega (arith, below)))
+      ∙ sym (d .spendsNothing c (judged c t (h 0) (h 1) (h 2)) refused i (omega (arith, below)) ∙ ap (λ (b : Bool). cond (b && holdsTokenFrom (codeShown c) was) (replicate 55 0) was) none)
       ∙ ap (λ (b : List ℕ). slotBytes b i) (ap (λ (r : Result). r .store) (result-is c t (h 0)) ∙ f .stores g sound c (h 0))
       in
       let same-slot = slot-back g sound i below ∙ ap decodeSlot kept ∙ sym (slot-back after (f .sounds g sound c t (h 0)) i below) in
-      unequal (slotOf g i .kind) (slotOf after i .kind) (ap (λ (s : Slot). s .kind) same-slot) (h 2)
+      unequal (slotOf g i .kind) (slotOf after i .kind) (ap (λ (s : Slot). s .kind) same-slot) (h 5)

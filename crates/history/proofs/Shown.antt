@@ -6,7 +6,7 @@
 -- Assumes nothing.
 use mathlib.Core.Path.{_≡_, refl, sym, ap, ap₂, _∙_, fun-ext, subst}
 use mathlib.Core.Bool.{Bool, true, false, cond, not, _&&_, _||_, false≢true}
-use mathlib.Core.List.{List, [], _∷_, _++_, map, append-assoc}
+use mathlib.Core.List.{List, [], _∷_, _++_, map, map-id, map-map, append-assoc}
 use Prim.Native.Nat.{ℕ, _+_, _≤_}
 use native.Mathlib.Omega.{arith}
 use borrow.Author.Tests.{not-false}
@@ -18,7 +18,7 @@ use Rattle.octets.specs.Lists.{part, same}
 use Rattle.octets.specs.Search.{keep, firstOr}
 use Rattle.octets.proofs.Booleans.{or-none}
 use Rattle.octets.proofs.Lists.{same-eq}
-use Rattle.octets.proofs.Counting.{keep-all, keep-map, firstOr-map}
+use Rattle.octets.proofs.Counting.{firstOr-map}
 use Rattle.encoding.specs.Hex.{hexText, readHandle}
 use Rattle.encoding.proofs.Hex.{hex-length}
 use Rattle.form.specs.Content.{Value, missing, once, repeated, formValue, isMissing, isRepeated, isOnce, onlyValue}
@@ -48,13 +48,14 @@ use Rattle.protocol.proofs.Reasons.{unrefused}
 use Rattle.protocol.proofs.Lengths.{separator-length}
 use Rattle.history.specs.Calls.{Call, authorization, token, check, handedTo, Result}
 use Rattle.history.specs.Server.{resultOf}
-use Rattle.history.specs.Contents.{Sort, code, access, refresh, Issue, isA, isOf, noIssue, originOf, valueOf, isExchange, isRefresh, isCredentials, askedOr, lifetime, fortyAt, codeIn, accessIn, refreshIn, codeIssue, tokenIssue, exchangeIssues, refreshIssues, ownIssue, issuedBy, isEndedBy, standingAfter, twenties}
-use Rattle.history.proofs.HeldIssues.{Handle, Held, asSlot, asIssue, noneHeld, issue-key}
-use Rattle.history.proofs.Invariant.{originHeld}
+use Rattle.history.specs.Contents.{Sort, code, spent, access, refresh, Issue, isA, isOf, noIssue, originOf, valueOf, isExchange, isRefresh, isCredentials, askedOr, lifetime, fortyAt, codeIn, accessIn, refreshIn, codeIssue, tokenIssue, exchangeIssues, refreshIssues, ownIssue, issuedBy, isSpentBy, asSpent, afterGrant, isWithdrawnBy, standingAfter, twenties}
+use Rattle.history.proofs.HeldIssues.{Handle, Held, asSlot, asIssue, turned, noneHeld, issue-key}
+use Rattle.history.proofs.Invariant.{originHeld, spendHeld}
 use Rattle.history.proofs.Readings.{given-asked, onlyOf, firstOf, secondOf, Brings}
-use Rattle.history.proofs.OneRequest.{codeHeld, tokenHeld, clientHeld, issuedHeld, isEndedHeld, heldAfter}
+use Rattle.history.proofs.OneRequest.{codeHeld, tokenHeld, clientHeld, issuedHeld, keptHeld, heldAfter, heldAfterRefusal}
 use Rattle.history.proofs.Asking.{caller-is, exchangeReading, refreshReading, credentialsReading, ReadAs, refusedAs, exchangeAs, refreshAs, credentialsAs, token-read}
 use Rattle.history.proofs.AnyCall.{outcomeOn, asked, unfitTo, planOn, granted-on}
+use Rattle.history.proofs.SecondShowing.{withdrawn-shown}
 use Rattle.history.proofs.Written.{textOn, written-text, written-on}
 
 -- ---- parts of the answer
@@ -151,23 +152,36 @@ module _ (clients : List Client) (held : List Held) where
       firstOr-map (asIssue clients) f noIssue noneHeld none (λ e. isA sort e && isOf text e) held
       ∙ ap (λ (k : Held → Bool). f (asIssue clients (firstOr noneHeld k held))) (fun-ext (issue-key clients sort text))
 
-  -- a token on the code or refresh token that a text presents
-  token-shown : (t : ℕ) (sort : Sort) (text : List ℕ) (h : Handle) → text ≡ hexText (h .octets) → (f : ℕ → ℕ) (from : Sort) (presented : List ℕ)
-      → let o = originOf from presented issues in
-      let x = originHeld from (readHandle presented) held in
-      tokenIssue sort t text o (f (o .scope)) ≡ asIssue clients (tokenHeld sort t h x (f (x .scope)))
-  unfolding noIssue noneHeld
-  token-shown t sort text h e f from presented =
-      let o = originOf from presented issues in
-      ap (λ (l : List ℕ). tokenIssue sort t l o (f (o .scope))) e
-      ∙ origin-shown (λ x. tokenIssue sort t (hexText (h .octets)) x (f (x .scope))) from presented refl
+  -- a token on the code that a text presents, and on the refresh token
+  module _ (t : ℕ) (sort : Sort) (text : List ℕ) (h : Handle) (e : text ≡ hexText (h .octets)) (presented : List ℕ) where
+    on-code : let o = originOf code presented issues in
+        let x = originHeld code (readHandle presented) held in
+        tokenIssue sort t text o (o .text) (o .scope) ≡ asIssue clients (tokenHeld sort t h x (x .handle) (x .scope))
+    unfolding noIssue noneHeld
+    on-code =
+        let o = originOf code presented issues in
+        ap (λ (l : List ℕ). tokenIssue sort t l o (o .text) (o .scope)) e
+        ∙ origin-shown (λ x. tokenIssue sort t (hexText (h .octets)) x (x .text) (x .scope)) code presented refl
 
-  -- all but the code that a text presents
-  code-ended : (text : List ℕ) → keep (λ e. not (isA code e && isOf text e)) issues
-      ≡ map (asIssue clients) (keep (λ e. not (soughtKey soughtCode (readHandle text) (asSlot e))) held)
-  code-ended text =
-      keep-map (asIssue clients) (λ e. not (isA code e && isOf text e)) held
-      ∙ ap (λ (k : Held → Bool). map (asIssue clients) (keep k held)) (fun-ext (λ e. ap not (issue-key clients code text e)))
+    on-refresh : (f : ℕ → ℕ) → let o = originOf refresh presented issues in
+        let x = originHeld refresh (readHandle presented) held in
+        tokenIssue sort t text o (o .origin) (f (o .scope)) ≡ asIssue clients (tokenHeld sort t h x (x .origin) (f (x .scope)))
+    unfolding noIssue noneHeld
+    on-refresh f =
+        let o = originOf refresh presented issues in
+        ap (λ (l : List ℕ). tokenIssue sort t l o (o .origin) (f (o .scope))) e
+        ∙ origin-shown (λ x. tokenIssue sort t (hexText (h .octets)) x (x .origin) (f (x .scope))) refresh presented refl
+
+  -- the code that a text presents is spent, in a call that does nothing else to what stands
+  all-as : (f : Issue → Issue) (g : Held → Held) → ((e : Held) → f (asIssue clients e) ≡ asIssue clients (g e))
+      → map f issues ≡ map (asIssue clients) (map g held)
+  all-as f g h =
+      map-map f (asIssue clients) held
+      ∙ ap (λ (k : Held → Issue). map k held) (fun-ext h)
+      ∙ sym (map-map (asIssue clients) g held)
+
+  stays : (f : Issue → Issue) → ((e : Issue) → f e ≡ e) → map f issues ≡ issues
+  stays f h = ap (λ (k : Issue → Issue). map k issues) (fun-ext h) ∙ map-id issues
 
 module _ (clients : List Client) (short : (n : ℕ) → length (clientAt clients n .redirect) ≤ redirectRoom) (g : Store) (held : List Held) where
   abbrev result : Call → Result
@@ -237,24 +251,25 @@ module _ (clients : List Client) (short : (n : ℕ) → length (clientAt clients
           scope = scope i;
           address = address i;
           expiry = t + lifetime code;
+          origin = text i;
         }
 
     -- what stands after it
     abbrev CodeStands : Reading → Type 0
     CodeStands reading =
         (q : Brings (length clients) (handed .random) (twenties authorizes) (reading .request))
-        → codeIssue clients t query farm (result authorizes) ∷ keep (λ e. true) (issues clients held)
+        → codeIssue clients t query farm (result authorizes) ∷ map (afterGrant authorizes) (issues clients held)
         ≡ map (asIssue clients)
         (heldAfter t held (length clients) (handed .random) (twenties authorizes) (reading .presented) (reading .request) q)
 
     code-stands : unfitTo authorizes ≡ false → IsGranted t (g .slots) (handed .random) (readAuthorization clients query decision farm)
         → CodeStands (readAuthorization clients query decision farm)
-    unfolding readAuthorization unlessRefused issuedHeld isEndedHeld Brings
+    unfolding readAuthorization unlessRefused isSpentBy issuedHeld keptHeld Brings
     code-stands fit granted =
         subst (λ (d : Decision). CodeStands (unlessRefused d codeReading))
         (sym (unless-granted t (g .slots) (handed .random) (firstReason reasons) codeReading granted))
         (λ q. ap₂ {C = List Issue} (λ e es. e ∷ es) (code-issued fit granted (onlyOf (q .0)) refl)
-        (keep-all (issues clients held) ∙ ap (λ (l : List Held). map (asIssue clients) l) (sym (keep-all held))))
+        (stays clients held (afterGrant authorizes) (λ e. refl)))
 
   -- ---- tokens
 
@@ -303,18 +318,34 @@ module _ (clients : List Client) (short : (n : ℕ) → length (clientAt clients
     abbrev Stands : Reading → Type 0
     Stands reading =
         GrantedAs reading → (q : Brings (length clients) (handed .random) (twenties asks) (reading .request))
-        → issuedBy clients at (issues clients held) asks (result asks) ++ keep (λ e. not (isEndedBy asks e)) (issues clients held)
+        → issuedBy clients at (issues clients held) asks (result asks) ++ map (afterGrant asks) (issues clients held)
         ≡ map (asIssue clients) (heldAfter at held (length clients) (handed .random) (twenties asks) (reading .presented) (reading .request) q)
 
+    -- the code that is presented is spent
+    code-spent : isExchange body ≡ true → (e : Held)
+        → afterGrant asks (asIssue clients e) ≡ asIssue clients (spendHeld (readHandle (valueOf body (bytes "code"))) e)
+    unfolding isSpentBy
+    code-spent is e = rw (is, issue-key clients code (valueOf body (bytes "code")) e) (by (soughtKey soughtCode (readHandle (valueOf body (bytes "code"))) (asSlot e)))
+      where
+        by : (b : Bool) → cond b (asSpent (asIssue clients e)) (asIssue clients e) ≡ asIssue clients (cond b (turned e spent (e .bound)) e)
+        by true = refl
+        by false = refl
+
+    -- any other grant spends nothing
+    none-spent : isExchange body ≡ false → map (afterGrant asks) (issues clients held) ≡ issues clients held
+    unfolding isSpentBy
+    none-spent other = stays clients held (afterGrant asks) (λ e. rw other)
+
     exchange-stands : isExchange body ≡ true → readToken clients header body ≡ exchanges → Stands exchanges
-    unfolding issuedBy exchangeIssues isEndedBy issuedHeld isEndedHeld Brings
+    unfolding issuedBy exchangeIssues issuedHeld keptHeld Brings
     exchange-stands is read granted q =
         let first = firstOf q in
         let second = secondOf q in
         let text = valueOf body (bytes "code") in
-        let refreshed = token-shown clients held at refresh _ second (refresh-text read granted (first .size) (second .size)) (λ s. s) code text in
-        let accessed = token-shown clients held at access _ first (access-text read granted (first .size)) (λ s. s) code text in
-        rw is (ap₂ {C = List Issue} (λ e es. e ∷ es) refreshed (ap₂ {C = List Issue} (λ e es. e ∷ es) accessed (code-ended clients held text)))
+        let refreshed = on-code clients held at refresh _ second (refresh-text read granted (first .size) (second .size)) text in
+        let accessed = on-code clients held at access _ first (access-text read granted (first .size)) text in
+        let others = all-as clients held (afterGrant asks) (spendHeld (readHandle text)) (code-spent is) in
+        rw is (ap₂ {C = List Issue} (λ e es. e ∷ es) refreshed (ap₂ {C = List Issue} (λ e es. e ∷ es) accessed others))
 
     -- ---- a token on a refresh token
 
@@ -322,17 +353,15 @@ module _ (clients : List Client) (short : (n : ℕ) → length (clientAt clients
     refreshes = refreshReading clients header body
 
     refresh-stands : isExchange body ≡ false → isRefresh body ≡ true → readToken clients header body ≡ refreshes → Stands refreshes
-    unfolding issuedBy refreshIssues isEndedBy issuedHeld isEndedHeld Brings
+    unfolding issuedBy refreshIssues issuedHeld keptHeld Brings
     refresh-stands other is read granted q =
         let first = firstOf (q .0) in
         let text = valueOf body (bytes "refresh_token") in
         let scope = formValue body (bytes "scope") in
-        let accessed = token-shown clients held at access _ first (access-text read granted (first .size)) (λ s. askedOr scope s) refresh text in
+        let accessed = on-refresh clients held at access _ first (access-text read granted (first .size)) text (λ s. askedOr scope s) in
         let o = originHeld refresh (readHandle text) held in
-        let given = ap (λ (s : ℕ). asIssue clients (tokenHeld access at first o s)) (sym (given-asked scope (o .scope))) in
-        rw (other, is)
-        (ap₂ {C = List Issue} (λ e es. e ∷ es) (accessed ∙ given)
-        (keep-all (issues clients held) ∙ ap (λ (l : List Held). map (asIssue clients) l) (sym (keep-all held))))
+        let given = ap (λ (s : ℕ). asIssue clients (tokenHeld access at first o (o .origin) s)) (sym (given-asked scope (o .scope))) in
+        rw (none-spent other, other, is) (ap {B = List Issue} (λ e. e ∷ issues clients held) (accessed ∙ given))
 
     -- ---- a client's token for itself
 
@@ -341,15 +370,14 @@ module _ (clients : List Client) (short : (n : ℕ) → length (clientAt clients
 
     credentials-stands : isExchange body ≡ false → isRefresh body ≡ false → isCredentials body ≡ true → readToken clients header body ≡ itself
         → Stands itself
-    unfolding issuedBy ownIssue isEndedBy issuedHeld isEndedHeld Brings
+    unfolding issuedBy ownIssue issuedHeld keptHeld Brings
     credentials-stands other neither is read granted q =
         let first = firstOf (q .0) in
         let number = callClient clients header body in
         let text = access-text read granted (first .size) in
         let scope = sym (given-asked (formValue body (bytes "scope")) (clientAt clients number .scope)) in
-        rw (other, neither, is, caller-is clients header body, text)
-        (ap₂ {C = List Issue} (λ e es. e ∷ es) (ap (λ (s : ℕ). asIssue clients (clientHeld at first (record { client = number; scope = s }))) scope)
-        (keep-all (issues clients held) ∙ ap (λ (l : List Held). map (asIssue clients) l) (sym (keep-all held))))
+        rw (none-spent other, other, neither, is, caller-is clients header body, text)
+        (ap {B = List Issue} (λ s. asIssue clients (clientHeld at first (record { client = number; scope = s })) ∷ issues clients held) scope)
 
     token-stands : Stands (readToken clients header body)
     token-stands = by (token-read clients header body)
@@ -366,10 +394,10 @@ module _ (clients : List Client) (short : (n : ℕ) → length (clientAt clients
       → (q : Brings (length clients) (handedTo c .random) (twenties c) (asked clients c .request))
       → isGrant (decisionOn (planOn clients g c)) ≡ true
       → let time = callTime g (handedTo c .clock) in
-      issuedBy clients time (issues clients held) c (result c) ++ keep (λ e. not (isEndedBy c e)) (issues clients held)
+      issuedBy clients time (issues clients held) c (result c) ++ map (afterGrant c) (issues clients held)
       ≡ map (asIssue clients)
       (heldAfter time held (length clients) (handedTo c .random) (twenties c) (asked clients c .presented) (asked clients c .request) q)
-  unfolding issuedBy isEndedBy handedTo asked
+  unfolding issuedBy handedTo asked
   granted-shown (authorization query decision farm handed) fit q e = code-stands query decision farm handed fit e q
   granted-shown (token header body handed) fit q e = token-stands header body handed fit e q
   granted-shown (check presented clock) fit q e = never-refused (callTime g clock) (g .slots) [] (ErrorPage Query) e
@@ -381,19 +409,29 @@ module _ (clients : List Client) (short : (n : ℕ) → length (clientAt clients
       standingAfter clients time (issues clients held) c (result c)
       ≡ map (asIssue clients)
       (cond (isGrant (decisionOn (planOn clients g c)))
-      (heldAfter time held (length clients) (handedTo c .random) (twenties c) (reading .presented) (reading .request) q) held)
+      (heldAfter time held (length clients) (handedTo c .random) (twenties c) (reading .presented) (reading .request) q)
+      (heldAfterRefusal time held (reading .presented) (reading .request)))
   unfolding standingAfter
   standing-shown c fit q =
-      ap (λ (b : Bool). cond b read (issues clients held)) (granted-on clients g c) ∙ by (isGrant (decisionOn (planOn clients g c))) refl
+      ap (λ (b : Bool). cond b read left) (granted-on clients g c) ∙ by (isGrant (decisionOn (planOn clients g c))) refl
     where
+      time : ℕ
+      time = callTime g (handedTo c .clock)
+
       after : List Held
       after =
-          heldAfter (callTime g (handedTo c .clock)) held (length clients) (handedTo c .random) (twenties c) (asked clients c .presented)
+          heldAfter time held (length clients) (handedTo c .random) (twenties c) (asked clients c .presented)
           (asked clients c .request) q
 
-      read : List Issue
-      read = issuedBy clients (callTime g (handedTo c .clock)) (issues clients held) c (result c) ++ keep (λ e. not (isEndedBy c e)) (issues clients held)
+      afterRefusal : List Held
+      afterRefusal = heldAfterRefusal time held (asked clients c .presented) (asked clients c .request)
 
-      by : (b : Bool) → isGrant (decisionOn (planOn clients g c)) ≡ b → cond b read (issues clients held) ≡ map (asIssue clients) (cond b after held)
+      read : List Issue
+      read = issuedBy clients time (issues clients held) c (result c) ++ map (afterGrant c) (issues clients held)
+
+      left : List Issue
+      left = keep (λ e. not (isWithdrawnBy clients time (issues clients held) c e)) (issues clients held)
+
+      by : (b : Bool) → isGrant (decisionOn (planOn clients g c)) ≡ b → cond b read left ≡ map (asIssue clients) (cond b after afterRefusal)
       by true e = granted-shown c fit q e
-      by false e = refl
+      by false e = withdrawn-shown clients held time c

@@ -5,29 +5,29 @@
 -- (`sound-after`).
 -- Assumes nothing.
 use mathlib.Core.Path.{_≡_, refl, sym, ap, _∙_}
-use mathlib.Core.Bool.{Bool, true, false, cond}
+use mathlib.Core.Bool.{Bool, true, false, cond, _||_}
 use mathlib.Core.List.{List, [], _∷_, map}
 use Prim.Native.Nat.{ℕ, suc, _+_, _*_, _^_, _≤_, _<_}
 use native.Mathlib.Omega.{arith}
-use lib.Dec.{ltb, lit≤}
+use lib.Dec.{ltb, lit≤, lit<}
 use lib.ListN.{length, take, drop, getD, replicate, length-drop, length-replicate}
 use lib.Seq.{drop-at, drop-drop, length-take-le}
-use Rattle.octets.specs.Lists.{part, Bytes}
+use Rattle.octets.specs.Lists.{part, Bytes, every, isZero}
 use Rattle.octets.specs.BigEndian.{bigEndianBytes}
 use Rattle.octets.proofs.BigEndian.{length-be-bytes}
 use Rattle.octets.proofs.Booleans.{and-left}
 use Rattle.octets.proofs.Lists.{each-replicate, zero-bytes}
 use Rattle.encoding.specs.declared.HandleText.{HandleText}
 use Rattle.token_store.specs.Layout.{timeSize, slotCount, handleSize, expirySize, slotSize, storeSize, slotStart, latestTime}
-use Rattle.octets.specs.Search.{firstOr}
-use Rattle.token_store.specs.Store.{issue, Store, SlotFits, kindRefresh, isUsed, isLive, isVacant, freeSlot, fresh, concat, encodeSlot, encode, decode, soughtKey}
+use Rattle.octets.specs.Search.{firstOr, replaceAll}
+use Rattle.token_store.specs.Store.{issue, Store, SlotFits, SlotsFit, kindLast, isUsed, isToken, isTokenKind, isSought, isLive, isVacant, freeSlot, spentCode, fresh, concat, encodeSlot, decodeSlot, encode, decode, shows, soughtKey, comesFrom, withoutTokens}
 use Rattle.token_store.specs.Fit.{fitSlot, fitStore}
 use Rattle.token_store.specs.declared.Slot.{Slot}
 use Rattle.token_store.specs.declared.Sought.{Sought}
 use Rattle.token_store.specs.declared.Sought.the-variants.{Code as soughtCode, Refresh as soughtRefresh}
-use Rattle.octets.proofs.Searches.{every-each, each-every, replaceFirst-each}
-use Rattle.token_store.proofs.Slots.{free-fits}
-use Rattle.token_store.proofs.Codec.{length-slots, slots-fit, encode-decode, decode-encode, decode-fresh}
+use Rattle.octets.proofs.Searches.{every-each, each-every, replaceFirst-each, replaceAll-at, replaceAll-each}
+use Rattle.token_store.proofs.Slots.{slot-back, free-bytes, free-fits, code-fails}
+use Rattle.token_store.proofs.Codec.{length-slots, slots-fit, encode-decode, decode-encode, piece-at, decode-fresh}
 use Rattle.token_store.proofs.Fits.{fit-used, used-fit, fit-free, fit-size, fit-time, fit-slots, fit-encode}
 use Rattle.protocol.specs.declared.Decision.{Decision}
 use Rattle.protocol.specs.declared.Decision.the-variants.{Grant, Refuse}
@@ -35,10 +35,10 @@ use Rattle.protocol.specs.declared.CodeRequest.{CodeRequest}
 use Rattle.protocol.specs.declared.Request.{Request}
 use Rattle.protocol.specs.declared.Request.the-variants.{Refused, Code, Exchange, Refresh, Credentials}
 use Rattle.protocol.specs.Answers.{isGrant}
-use Rattle.protocol.specs.Granting.{Plan, firstHandle, shownSlot, newCode, refusedPlan, codePlan, exchangePlan, refreshPlan, credentialsPlan, planFor, decisionOn, slotsBy, slotsAfter}
-use Rattle.octets.proofs.Counting.{length-replaceFirst}
+use Rattle.protocol.specs.Granting.{Plan, firstHandle, shownSlot, isShownAgain, newCode, refusedPlan, codePlan, exchangePlan, refreshPlan, credentialsPlan, planFor, decisionOn, slotsBy, slotsAfter}
+use Rattle.octets.proofs.Counting.{length-replaceFirst, length-replaceAll}
 use Rattle.history.proofs.Readings.{FieldsFit, scope-given, Brings}
-use Rattle.history.proofs.OneRequest.{Granted, exchange-has, refresh-has, denied-slots}
+use Rattle.history.proofs.OneRequest.{shown-key, Granted, exchange-has, refresh-has}
 
 -- ---- a slot
 
@@ -50,9 +50,10 @@ sound-free : (clients : ℕ) → SoundSlot clients freeSlot
 sound-free clients = record { fits = free-fits; fit = fit-free clients }
 
 module _ (clients : ℕ) (s : Slot) (used : isUsed s ≡ true) where
-  sound-used : clients ≤ 64 → s .kind ≤ kindRefresh → length (s .handle) ≡ handleSize → s .expiry < 256 ^ expirySize
-      → FieldsFit clients (s .client) (s .farm) (s .scope) → SoundSlot clients s
-  sound-used few kind handle expiry f = record {
+  sound-used : clients ≤ 64 → s .kind ≤ kindLast → length (s .handle) ≡ handleSize → s .expiry < 256 ^ expirySize
+      → FieldsFit clients (s .client) (s .farm) (s .scope) → length (s .origin) ≡ handleSize → (isToken s || every isZero (s .origin)) ≡ true
+      → SoundSlot clients s
+  sound-used few kind handle expiry f wide origin = record {
     fits = record {
       kind = omega arith;
       handle = handle;
@@ -60,8 +61,9 @@ module _ (clients : ℕ) (s : Slot) (used : isUsed s ≡ true) where
       farm = omega (arith, f .wide);
       scope = omega (arith, f .scope .byte);
       expiry = expiry;
+      origin = wide;
     };
-    fit = used-fit clients s used (record { kind = kind; client = f .client; scope = f .scope .some });
+    fit = used-fit clients s used (record { kind = kind; client = f .client; scope = f .scope .some; origin = origin });
   }
 
   used-fields : SoundSlot clients s → FieldsFit clients (s .client) (s .farm) (s .scope)
@@ -114,6 +116,32 @@ slots-same g h e i = behind g ∙ ap (λ (l : List Slot). part (concat (map enco
         ∙ ap (λ (l : List ℕ). drop (i * slotSize) l)
         (drop-at (bigEndianBytes timeSize (s .time)) (concat (map encodeSlot (s .slots))) timeSize (length-be-bytes timeSize (s .time))))
 
+-- a store with some slots freed, which are zero
+pub slots-freed : (g : Store) → length (g .slots) ≡ slotCount → SlotsFit (g .slots) → (k : Slot → Bool) (t i : ℕ) → i < slotCount
+    → part (encode (record { time = t; slots = replaceAll freeSlot k (g .slots) })) (slotStart i) slotSize
+    ≡ cond (k (getD (g .slots) i freeSlot)) (replicate slotSize 0) (part (encode g) (slotStart i) slotSize)
+slots-freed g size fits k t i below =
+    slots-same (record { time = t; slots = freed }) (record { time = 0; slots = freed }) refl i
+    ∙ piece-at (record { time = 0; slots = freed }) (length-replaceAll freeSlot k (g .slots) ∙ size) (lit< tt)
+    (replaceAll-each freeSlot k SlotFits free-fits (g .slots) fits) i below
+    ∙ ap encodeSlot (replaceAll-at freeSlot k (g .slots) i)
+    ∙ by (k (getD (g .slots) i freeSlot))
+  where
+    freed : List Slot
+    freed = replaceAll freeSlot k (g .slots)
+
+    by : (b : Bool) → encodeSlot (cond b freeSlot (getD (g .slots) i freeSlot)) ≡ cond b (replicate slotSize 0) (part (encode g) (slotStart i) slotSize)
+    by true = free-bytes
+    by false = sym (slots-same g (record { time = 0; slots = g .slots }) refl i ∙ piece-at (record { time = 0; slots = g .slots }) size (lit< tt) fits i below)
+
+-- a slot's bytes are read as the slot
+pub slot-read-back : (g : Store) → length (g .slots) ≡ slotCount → SlotsFit (g .slots) → (i : ℕ) → i < slotCount
+    → decodeSlot (part (encode g) (slotStart i) slotSize) ≡ getD (g .slots) i freeSlot
+slot-read-back g size fits i below =
+    ap decodeSlot
+    (slots-same g (record { time = 0; slots = g .slots }) refl i ∙ piece-at (record { time = 0; slots = g .slots }) size (lit< tt) fits i below)
+    ∙ slot-back (getD (g .slots) i freeSlot) (fits i)
+
 -- ---- the fresh store
 
 pub sound-fresh : (clients : ℕ) → Sound clients fresh
@@ -146,19 +174,33 @@ module _ {clients : ℕ} (few : clients ≤ 64) {t : ℕ} (early : t ≤ latestT
   abbrev slots : List Slot
   slots = g .slots
 
+  shown-sound : (q : Sought) → SoundSlot clients (shownSlot q p slots)
+  shown-sound q = found-sound (soughtKey q p) slots (w .slots)
+
   shown-fields : (q : Sought) → let s = shownSlot q p slots in isLive t s ≡ true → FieldsFit clients (s .client) (s .farm) (s .scope)
   shown-fields q live =
-      let s = shownSlot q p slots in
-      used-fields clients s (and-left (isUsed s) (ltb t (s .expiry)) live) (found-sound (soughtKey q p) slots (w .slots))
+      let s = shownSlot q p slots in used-fields clients s (and-left (isUsed s) (ltb t (s .expiry)) live) (shown-sound q)
+
+  -- a code that is found is fit as spent, too: it has no origin
+  spent-sound : isLive t (shownSlot soughtCode p slots) ≡ true → SoundSlot clients (spentCode (shownSlot soughtCode p slots))
+  spent-sound live =
+      let s = shownSlot soughtCode p slots in
+      let sound = shown-sound soughtCode in
+      let used = and-left (isUsed s) (ltb t (s .expiry)) live in
+      let none : isToken s ≡ false = code-fails isTokenKind refl refl s (and-left (isSought soughtCode s) (shows p s) (shown-key t slots soughtCode p live)) in
+      let zero : every isZero (s .origin) ≡ true = rw none at (fit-used clients s used (sound .fit) .origin) in
+      sound-used clients (spentCode s) refl few (lit≤ tt) (sound .fits .handle) (sound .fits .expiry) (shown-fields soughtCode live)
+      (sound .fits .origin) zero
 
   code-sound : (r : CodeRequest) → 20 ≤ length random → FieldsFit clients (r .client) (r .farm) (r .scope)
       → SoundSlot clients (newCode t (firstHandle random) r)
+  unfolding every
   code-sound r h f = by (r .bound)
     where
       by : (b : Bool)
           → SoundSlot clients (newCode t (firstHandle random) (record { client = r .client; farm = r .farm; scope = r .scope; bound = b }))
-      by true = sound-used clients _ refl few (lit≤ tt) (length-take-le handleSize random h) (omega arith) f
-      by false = sound-used clients _ refl few (lit≤ tt) (length-take-le handleSize random h) (omega arith) f
+      by true = sound-used clients _ refl few (lit≤ tt) (length-take-le handleSize random h) (omega arith) f refl refl
+      by false = sound-used clients _ refl few (lit≤ tt) (length-take-le handleSize random h) (omega arith) f refl refl
 
   issue-each : (s : Slot) (l : List Slot) → SoundSlot clients s → AllSound clients l → AllSound clients (issue t s l)
   issue-each s l new old = replaceFirst-each (isVacant t) freeSlot (SoundSlot clients) s new l old
@@ -169,21 +211,25 @@ module _ {clients : ℕ} (few : clients ≤ 64) {t : ℕ} (early : t ≤ latestT
   granted-each (Refused r) q e = w .slots
   granted-each (Code r) q e = issue-each _ slots (code-sound r (omega (arith, q .0 .size)) (q .1)) (w .slots)
   granted-each (Exchange r) q e =
-      let f = shown-fields soughtCode (exchange-has t slots random p r e .0) in
+      let live = exchange-has t slots random p r e .0 in
+      let f = shown-fields soughtCode live in
+      let o = shown-sound soughtCode .fits .handle in
       let a = length-take-le handleSize random (omega (arith, q .size)) in
       let b = length-take-le handleSize (drop handleSize random) (simp length-drop (omega (arith, q .size))) in
-      issue-each _ _ (sound-used clients _ refl few (lit≤ tt) b (omega arith) f)
-      (issue-each _ _ (sound-used clients _ refl few (lit≤ tt) a (omega arith) f)
-      (replaceFirst-each (soughtKey soughtCode p) freeSlot (SoundSlot clients) freeSlot (sound-free clients) slots (w .slots)))
+      issue-each _ _ (sound-used clients _ refl few (lit≤ tt) b (omega arith) f o refl)
+      (issue-each _ _ (sound-used clients _ refl few (lit≤ tt) a (omega arith) f o refl)
+      (replaceFirst-each (soughtKey soughtCode p) freeSlot (SoundSlot clients) _ (spent-sound live) slots (w .slots)))
   granted-each (Refresh r) q e =
       let s = shownSlot soughtRefresh p slots in
       let f = shown-fields soughtRefresh (refresh-has t slots random p r e .0) in
       let a = length-take-le handleSize random (omega (arith, q .0 .size)) in
       issue-each _ slots
       (sound-used clients _ refl few (lit≤ tt) a (omega arith)
-      (record { client = f .client; wide = f .wide; scope = scope-given (r .scope) (s .scope) (q .1) (f .scope) })) (w .slots)
+      (record { client = f .client; wide = f .wide; scope = scope-given (r .scope) (s .scope) (q .1) (f .scope) }) (shown-sound soughtRefresh .fits .origin) refl)
+      (w .slots)
   granted-each (Credentials r) q e =
-      issue-each _ slots (sound-used clients _ refl few (lit≤ tt) (length-take-le handleSize random (omega (arith, q .0 .size))) (omega arith) (q .1)) (w .slots)
+      let a = length-take-le handleSize random (omega (arith, q .0 .size)) in
+      issue-each _ slots (sound-used clients _ refl few (lit≤ tt) a (omega arith) (q .1) a refl) (w .slots)
 
   granted-size : (request : Request) → length (planFor t slots random p request .granted) ≡ length slots
   unfolding planFor refusedPlan codePlan exchangePlan refreshPlan credentialsPlan
@@ -192,6 +238,31 @@ module _ {clients : ℕ} (few : clients ≤ 64) {t : ℕ} (early : t ≤ latestT
   granted-size (Exchange r) = simp length-replaceFirst
   granted-size (Refresh r) = simp length-replaceFirst
   granted-size (Credentials r) = simp length-replaceFirst
+
+  -- a refusal frees slots at the most
+  denied-each : (request : Request) → AllSound clients (planFor t slots random p request .denied)
+  unfolding planFor refusedPlan codePlan exchangePlan refreshPlan credentialsPlan
+  denied-each (Refused r) = w .slots
+  denied-each (Code r) = w .slots
+  denied-each (Exchange r) = by (isShownAgain t (r .client) p slots)
+    where
+      by : (b : Bool) → AllSound clients (cond b (withoutTokens (p .bytes) slots) slots)
+      by true = replaceAll-each freeSlot (comesFrom (p .bytes)) (SoundSlot clients) (sound-free clients) slots (w .slots)
+      by false = w .slots
+  denied-each (Refresh r) = w .slots
+  denied-each (Credentials r) = w .slots
+
+  denied-size : (request : Request) → length (planFor t slots random p request .denied) ≡ length slots
+  unfolding planFor refusedPlan codePlan exchangePlan refreshPlan credentialsPlan
+  denied-size (Refused r) = refl
+  denied-size (Code r) = refl
+  denied-size (Exchange r) = by (isShownAgain t (r .client) p slots)
+    where
+      by : (b : Bool) → length (cond b (withoutTokens (p .bytes) slots) slots) ≡ length slots
+      by true = length-replaceAll freeSlot (comesFrom (p .bytes)) slots
+      by false = refl
+  denied-size (Refresh r) = refl
+  denied-size (Credentials r) = refl
 
   -- a request leaves a sound store
   pub sound-after : (request : Request) → Brings clients random twenties request
@@ -204,4 +275,4 @@ module _ {clients : ℕ} (few : clients ≤ 64) {t : ℕ} (early : t ≤ latestT
 
       by : (d : Decision) → (isGrant d ≡ true → AllSound clients (plan .granted)) → Sound clients (record { time = t; slots = slotsBy d plan })
       by Grant f = record { size = granted-size request ∙ w .size; early = early; slots = f refl }
-      by (Refuse r) f = rw (denied-slots t slots random p request) (record { size = w .size; early = early; slots = w .slots })
+      by (Refuse r) f = record { size = denied-size request ∙ w .size; early = early; slots = denied-each request }

@@ -7,14 +7,14 @@
 -- In order: a call that is judged; the token endpoint, grant by grant; the check; the location; a refused try; the theorem.
 -- Assumes nothing.
 use mathlib.Core.Path.{_≡_, refl, sym, ap, ap₂, _∙_, fun-ext, subst}
-use mathlib.Core.Bool.{Bool, true, false, not, _&&_, and-true, Bool·not-not}
+use mathlib.Core.Bool.{Bool, true, false, cond, _&&_, and-true, Bool·not-not}
 use mathlib.Core.List.{List, [], _∷_, List·Memᴰ}
-use Prim.Native.Nat.{ℕ, _+_, _-_}
+use Prim.Native.Nat.{ℕ, _+_, _-_, _<_}
 use native.Mathlib.Omega.{arith}
 use lib.Dec.{leb, eqb}
-use lib.ListN.{length}
+use lib.ListN.{length, replicate, getD}
 use Rattle.octets.specs.Text.{bytes}
-use Rattle.octets.specs.Lists.{Bytes, part, every}
+use Rattle.octets.specs.Lists.{Bytes, part, every, same}
 use Rattle.octets.specs.Search.{count, any}
 use Rattle.octets.proofs.Counting.{count-map, any-map, member-map}
 use Rattle.encoding.specs.Hex.{readHandle}
@@ -23,9 +23,8 @@ use Rattle.client_registry.proofs.Clients.{redirect-most}
 use Rattle.client_registry.specs.Registry.{Client, clientsOf}
 use Rattle.client_registry.specs.Lookup.{numberOf, clientAt}
 use Rattle.token_store.specs.Layout.{slotStart, slotSize}
-use Rattle.token_store.specs.Store.{Store, isLive, decode, soughtKey}
+use Rattle.token_store.specs.Store.{Store, SlotsFit, isToken, isLive, freeSlot, encode, decode, decodeSlot, comesFrom, withoutTokens}
 use Rattle.token_store.specs.declared.Slot.{Slot}
-use Rattle.token_store.specs.declared.Sought.the-variants.{Code as soughtCode}
 use Rattle.protocol.specs.declared.Decision.{Decision}
 use Rattle.protocol.specs.declared.Decision.the-variants.{Grant}
 use Rattle.protocol.specs.declared.Reading.{Reading}
@@ -37,20 +36,22 @@ use Rattle.protocol.specs.Authorization.{queryClient, isInvalidScope, location,
 use Rattle.protocol.specs.ClientForms.{callClient}
 use Rattle.protocol.specs.Token.{credentialsReasons, readCredentials, readToken, tokenReply, refreshMember}
 use Rattle.protocol.specs.Granting.{Plan, shownSlot, firstHandle, secondHandle, exchangePlan, refreshPlan, credentialsPlan, planFor, planOf, decisionOn}
-use Rattle.protocol.specs.Outcomes.{Handed, Outcome, replyText, serveCheck}
+use Rattle.protocol.specs.Outcomes.{Handed, replyText, serveCheck}
 use Rattle.history.specs.Calls.{Call, authorization, token, check, handedTo, AllWellTyped, Result}
-use Rattle.history.specs.Server.{Answer, outcomeOf, isPassed, namedIn, namedBy, resultOf, ours}
-use Rattle.history.specs.Contents.{Sort, noIssue, code, access, refresh, Issue, isA, isLiveAt, isOf, originOf, valueOf, isExchange, isRefresh, isCredentials, isWithinGranted, askedOr, caller, firstTwenty, lastTwenty, twenties, NeverTwice}
+use Rattle.history.specs.Server.{outcomeOf, isPassed, namedIn, namedBy, resultOf, ours}
+use Rattle.history.specs.Contents.{Sort, noIssue, code, access, refresh, Issue, isA, isLiveAt, isOf, originOf, valueOf, isExchange, isRefresh, isCredentials, isWithinGranted, askedOr, caller, isSecondShowing, codeShown, firstTwenty, lastTwenty, twenties, NeverTwice}
+use Rattle.history.specs.Slots.{holdsTokenFrom}
 use Rattle.history.specs.Claim.{isExchangeable, mayExchange, isRefreshable, mayRefresh, mayHaveOwn, mayPass, Answers, store, contained, standing, timeAt, next, Judged, Asks, Demand3, CredentialsYield}
 use Rattle.protocol.proofs.Reasons.{grant-every}
 use Rattle.history.proofs.HeldIssues.{Held, noneHeld, sought, asSlot, asIssue, issue-live, issue-key, issue-repeated}
 use Rattle.history.proofs.Invariant.{Invariant, invariant-later, origin}
 use Rattle.history.proofs.Readings.{second-last, within-granted, given-asked}
 use Rattle.history.proofs.OneRequest.{exchange-has, refresh-has, exchange-none, refresh-none, isExchangeableHeld, isRefreshableHeld, exchange-answer, refresh-answer, credentials-answer, check-passes, check-names}
-use Rattle.history.proofs.SoundStores.{slots-same}
-use Rattle.history.proofs.AnyCall.{outcomeOn, asked, unfitTo, isPast, TakenCall, unseen, seen, seen-past, take, past-buffers, past-registry, fit-size, planOn, leftBy, store-on, granted-on, refused-left}
+use Rattle.history.proofs.SoundStores.{slots-same, slots-freed, slot-read-back}
+use Rattle.history.proofs.AnyCall.{outcomeOn, asked, unfitTo, isPast, seen-past, past-buffers, past-registry, fit-size, planOn, store-on, granted-on, refused-left}
 use Rattle.history.proofs.Written.{textOn, written-on}
 use Rattle.history.proofs.Asking.{caller-is, exchangeAsked, refreshAsked, credentialsAsked, exchangeReading, refreshReading, credentialsReading, unlessMissing, unless-missing, exchange-read, refresh-read, credentials-read}
+use Rattle.history.proofs.SecondShowing.{isAgain, denied-is, again-second, again-valid}
 use Rattle.history.proofs.Shown.{is-grant, unless-granted, unless-grants, origin-shown}
 use Rattle.history.proofs.AllCalls.{storeWith, Kept, kept-read, kept-all, never-tail}
 
@@ -182,8 +183,8 @@ module _ (registry : List ℕ) (small : Bytes registry) (cs : List Call) (typed 
     -- ---- an exchange
 
     module _ (is : isExchange body ≡ true) where
-      abbrev codeShown : List ℕ
-      codeShown = valueOf body (bytes "code")
+      abbrev presentedCode : List ℕ
+      presentedCode = valueOf body (bytes "code")
 
       read-exchange : readToken clients header body ≡ unlessMissing (formValue body (bytes "code")) (exchangeReading clients header body)
       read-exchange = exchange-read clients header body (a .admitted) is
@@ -195,31 +196,27 @@ module _ (registry : List ℕ) (small : Bytes registry) (cs : List Call) (typed 
           (λ e. rw e (exchange-none t slots random (exchangeAsked clients header body)))
 
       exchangeable : (e : Held) → isExchangeable clients t (standing ours registry cs) header body (asIssue clients e)
-          ≡ isExchangeableHeld t (readHandle codeShown) (exchangeAsked clients header body) e
+          ≡ isExchangeableHeld t (readHandle presentedCode) (exchangeAsked clients header body) e
       exchangeable e =
           rw (caller-is clients header body)
           (ap₂ _&&_ (issue-live clients t e)
-          (issue-repeated clients codeShown (callClient clients header body) (formValue body (bytes "redirect_uri")) e))
-
-      others : (e : Held) → (isLiveAt t (asIssue clients e) && not (isA code (asIssue clients e) && isOf codeShown (asIssue clients e)))
-          ≡ (isLive t (asSlot e) && not (soughtKey soughtCode (readHandle codeShown) (asSlot e)))
-      others e = ap₂ (λ (x y : Bool). x && not y) (issue-live clients t e) (issue-key clients code codeShown e)
+          (issue-repeated clients presentedCode (callClient clients header body) (formValue body (bytes "redirect_uri")) e))
 
       exchange-claim : next ours registry cs asks .granted ≡ mayExchange clients t (standing ours registry cs) header body
       unfolding mayExchange
       exchange-claim =
           exchange-granted
-          ∙ exchange-answer invariant once (readHandle codeShown) random new (exchangeAsked clients header body)
-          ∙ ap₂ _&&_ (sym (any-held _ _ exchangeable)) (ap (λ (n : ℕ). leb (n + 2) 512) (sym (count-held _ _ others)))
+          ∙ exchange-answer invariant once (readHandle presentedCode) random new (exchangeAsked clients header body)
+          ∙ ap₂ _&&_ (sym (any-held _ _ exchangeable)) (ap (λ (n : ℕ). leb (n + 2) 512) (sym (count-held _ _ (issue-live clients t))))
 
       exchange-reply : next ours registry cs asks .granted ≡ true
-          → let scope = originOf code codeShown (standing ours registry cs) .scope in
+          → let scope = originOf code presentedCode (standing ours registry cs) .scope in
           Answers handed (next ours registry cs asks) (tokenReply (firstTwenty random) (refreshMember (lastTwenty random)) scope)
       unfolding replyText planFor exchangePlan
       exchange-reply e =
           let granted = sym exchange-granted ∙ e in
-          let live = exchange-has t slots random (readHandle codeShown) (exchangeAsked clients header body) granted .0 in
-          rw (← (second-last random size), ← (scope-held code codeShown live)) (reply-as (read-granted _ _ read-exchange e) granted)
+          let live = exchange-has t slots random (readHandle presentedCode) (exchangeAsked clients header body) granted .0 in
+          rw (← (second-last random size), ← (scope-held code presentedCode live)) (reply-as (read-granted _ _ read-exchange e) granted)
 
     -- ---- a refresh
 
@@ -350,20 +347,56 @@ module _ (registry : List ℕ) (small : Bytes registry) (cs : List Call) (typed 
 
   -- ---- a refused try
 
-  refused-slots : (c : Call) → next ours registry cs c .granted ≡ false
-      → (i : ℕ) → part (next ours registry cs c .store) (slotStart i) slotSize ≡ part (store ours registry cs) (slotStart i) slotSize
-  refused-slots c none i = by (take registry (store ours registry cs) c)
-    where
-      by : TakenCall registry (store ours registry cs) c
-          → part (next ours registry cs c .store) (slotStart i) slotSize ≡ part (store ours registry cs) (slotStart i) slotSize
-      by (unseen j n e) = ap (λ (o : Outcome Answer). part (o .store) (slotStart i) slotSize) e
-      by (seen past e) =
-          let o = on-record c e in
-          rw (o, store-on clients left c, kept .bytes)
-          (slots-same (leftBy clients left c) left (refused-left clients left c (rw o at none)) i)
+  module _ (c : Call) (judged : Judged ours registry cs c) where
+    abbrev at : ℕ
+    at = timeAt ours registry cs (handedTo c .clock)
+
+    abbrev again : Bool
+    again = isAgain clients at slots c
+
+    second-is : isSecondShowing clients at (standing ours registry cs) c ≡ again
+    second-is =
+        ap (λ (l : List Issue). isSecondShowing clients at l c) (kept .issues)
+        ∙ again-second clients at slots (invariant-at (handedTo c .clock) (once-seen c judged)) (once-seen c judged) c
+
+    module _ (i : ℕ) (below : i < 512) where
+      abbrev slot : List ℕ
+      slot = part (store ours registry cs) (slotStart i) slotSize
+
+      abbrev Left : Bool → Type 0
+      Left b =
+          part (encode (record { time = at; slots = cond b (withoutTokens (readHandle (codeShown c) .bytes) slots) slots })) (slotStart i) slotSize
+          ≡ cond (b && holdsTokenFrom (codeShown c) slot) (replicate 55 0) slot
+
+      -- a second showing frees the tokens that came from the code, and nothing else
+      left-by : (b : Bool) → again ≡ b → Left b
+      left-by true e =
+          let handle = readHandle (codeShown c) .bytes in
+          let fits : SlotsFit slots = λ k. kept .sound .slots k .fits in
+          let bytes-are : slot ≡ part (encode left) (slotStart i) slotSize = ap (λ (b : List ℕ). part b (slotStart i) slotSize) (kept .bytes) in
+          let read : decodeSlot slot ≡ getD slots i freeSlot = ap decodeSlot bytes-are ∙ slot-read-back left (kept .sound .size) fits i below in
+          let holds : comesFrom handle (getD slots i freeSlot) ≡ holdsTokenFrom (codeShown c) slot =
+          ap (comesFrom handle) (sym read)
+          ∙ ap (λ (v : Bool). isToken (decodeSlot slot) && (v && same handle (decodeSlot slot .origin))) (sym (again-valid clients at slots c e))
+          in
+          slots-freed left (kept .sound .size) fits (comesFrom handle) at i below
+          ∙ ap₂ (λ (b : Bool) (l : List ℕ). cond b (replicate slotSize 0) l) holds (sym bytes-are)
+      left-by false e =
+          slots-same (record { time = at; slots = slots }) left refl i ∙ sym (ap (λ (b : List ℕ). part b (slotStart i) slotSize) (kept .bytes))
+
+      refused-slot : next ours registry cs c .granted ≡ false
+          → part (next ours registry cs c .store) (slotStart i) slotSize
+          ≡ cond (isSecondShowing clients at (standing ours registry cs) c && holdsTokenFrom (codeShown c) slot) (replicate 55 0) slot
+      refused-slot none =
+          ap (λ (r : Result). part (r .store) (slotStart i) slotSize) (result-is c judged)
+          ∙ ap (λ (b : List ℕ). part b (slotStart i) slotSize) (store-on clients left c)
+          ∙ ap (λ (l : List Slot). part (encode (record { time = at; slots = l })) (slotStart i) slotSize)
+          (refused-left clients left c (sym (ap (λ (r : Result). r .granted) (result-is c judged)) ∙ none) ∙ denied-is clients at slots (handedTo c .random) c)
+          ∙ left-by again refl
+          ∙ ap (λ (b : Bool). cond (b && holdsTokenFrom (codeShown c) slot) (replicate 55 0) slot) (sym second-is)
 
 -- For every registry of bytes, fit or not, and every list of calls whose random bytes are bytes and whose farm numbers have 32 bits. That
--- no twenty random bytes come twice is asked where a call is judged (`Judged`); what a refused try leaves needs no such premise.
+-- no twenty random bytes come twice is asked where a call is judged (`Judged`).
 pub demand3 : (registry : List ℕ) → Bytes registry → (cs : List Call) → AllWellTyped cs → Demand3 ours registry cs
 demand3 registry small cs typed = record {
   exchanges = exchange-claim registry small cs typed;
@@ -374,7 +407,7 @@ demand3 registry small cs typed = record {
   refreshReplies = refresh-reply registry small cs typed;
   credentialsReplies = credentials-reply registry small cs typed;
   locates = code-located registry small cs typed;
-  spendsNothing = λ c none i below. refused-slots registry small cs typed c none i;
+  spendsNothing = λ c judged none i below. refused-slot registry small cs typed c judged i below none;
 }
 
 -- And beyond it: when a client that asks for itself is served.

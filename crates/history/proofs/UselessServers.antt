@@ -6,22 +6,22 @@
 -- shut out: "demand 3 alone holds of a desk that issues nothing".
 -- Assumes nothing.
 use mathlib.Core.Path.{_≡_, refl, sym, ap, ap₂, _∙_}
-use mathlib.Core.Bool.{not, Bool, true, false, cond, false≢true}
+use mathlib.Core.Bool.{not, Bool, true, false, cond, _&&_, false≢true, and-false}
 use mathlib.Core.List.{List, [], _∷_, _++_, map, List·Memᴰ·not-nil}
-use Prim.Native.Nat.{ℕ, _+_}
+use Prim.Native.Nat.{ℕ, _+_, max}
 use native.Mathlib.Omega.{arith}
 use borrow.Author.Tests.{eqb-true}
 use lib.Dec.{ltb, eqb, lit<}
 use lib.ListN.{length, drop, length-map, List·getD-map}
 use lib.Seq.{drop-at}
 use Rattle.octets.specs.Lists.{indexOf, splitOn, grow, every, same}
-use Rattle.octets.specs.Search.{count, firstOr, replaceFirst, keep, indexWhere, any}
+use Rattle.octets.specs.Search.{count, firstOr, replaceFirst, replaceAll, keep, indexWhere, any}
 use Rattle.octets.specs.Text.{bytes}
 use Rattle.octets.specs.BigEndian.{bigEndianBytes}
 use Rattle.octets.proofs.BigEndian.{length-be-bytes}
 use Rattle.octets.proofs.Booleans.{and-left, cond-of}
-use Rattle.octets.proofs.Counting.{length-replaceFirst}
-use Rattle.octets.proofs.Searches.{replaceFirst-each}
+use Rattle.octets.proofs.Counting.{length-replaceFirst, length-replaceAll}
+use Rattle.octets.proofs.Searches.{replaceFirst-each, replaceAll-each}
 use Rattle.octets.proofs.Lists.{same-refl, same-eq}
 use Rattle.encoding.specs.Hex.{hexText, hexDigit, hexValue, isHandleText, unhex, readHandle}
 use Rattle.encoding.specs.Base64.{isBase64, base64Bytes, groupBytes, soundGroup, sextet, none}
@@ -31,7 +31,7 @@ use Rattle.scope.specs.Set.{names}
 use Rattle.scope.specs.Value.{bitFrom, bitOf, union, readScope, chosen, spaced, scopeText}
 use Rattle.client_registry.specs.Sample.{sampleConfidential, samplePublic, sampleClients, sampleRegistry}
 use Rattle.client_registry.specs.Registry.{clientsOf, distinct}
-use Rattle.token_store.specs.Store.{freeSlot, Store, encode, decode, fresh, soughtKey, slotOf, isVacant, concat, encodeSlot, issue, withSlots, withTime, kindRefresh, isUsed, isSought}
+use Rattle.token_store.specs.Store.{freeSlot, Store, encode, decode, fresh, soughtKey, slotOf, isVacant, concat, encodeSlot, issue, withSlots, withTime, kindRefresh, isUsed, isSought, comesFrom, withoutTokens}
 use Rattle.token_store.specs.Layout.{timeSize}
 use Rattle.token_store.specs.declared.Slot.{Slot}
 use Rattle.token_store.specs.declared.Sought.the-variants.{Code as soughtCode, Refresh as soughtRefresh}
@@ -46,8 +46,8 @@ use Rattle.protocol.specs.Token.{readExchange, readRefresh, readCredentials, re
 use Rattle.protocol.specs.Granting.{refusedPlan, codePlan, exchangePlan, refreshPlan, credentialsPlan, planFor, slotsBy, checkSlots}
 use Rattle.protocol.specs.Outcomes.{Handed, replyText, serveAuthorization, serveToken, serveCheck}
 use Rattle.protocol.proofs.Starred.{countUp, rfcQuery}
-use Rattle.history.specs.Contents.{standingAfter, withEvent, codeIssue, exchangeIssues, refreshIssues, ownIssue, issuedBy, isEndedBy, noIssue, isWithinGranted, noneBeyond, askedOr, namesOr, valueOf, Contents, nothingYet, withEvents, twenties, isRefresh, isCredentials, idIn}
-use Rattle.history.specs.Claim.{isRepeatedBy, mayRefresh, mayPass, isAdmitted, mayExchange, mayHaveOwn, Demand3, CredentialsYield}
+use Rattle.history.specs.Contents.{standingAfter, withEvent, codeIssue, exchangeIssues, refreshIssues, ownIssue, issuedBy, isSpentBy, isSecondShowing, codeShown, isWithdrawnBy, noIssue, isWithinGranted, noneBeyond, askedOr, namesOr, valueOf, Issue, Contents, nothingYet, withEvents, twenties, isExchange, isRefresh, isCredentials, idIn, isAdmitted}
+use Rattle.history.specs.Claim.{isRepeatedBy, mayRefresh, mayPass, mayExchange, mayHaveOwn, Demand3, CredentialsYield}
 use Rattle.history.specs.Server.{isUnfit, isUnfitDecision, isUnfitRefusal, isUnfitCheck, isGranted, lengthOf, isPassed, namedIn, isLiveCheck, namedBy, nothingNamed, ours}
 use Rattle.history.specs.Calls.{Call, authorization, token, check, handedTo, WellTyped, AllWellTyped, Result, Server, events, freshStore}
 use Rattle.history.proofs.AnyCall.{outcomeOn, asked, unfitTo, leftBy, store-on}
@@ -180,6 +180,23 @@ unkept (check presented clock) granted before after = after
 pub forgetsOwn : Server
 forgetsOwn = leavingFrom unkept
 
+-- a code that is shown again withdraws nothing
+unfoldable pub unwithdrawn : Call → Bool → Store → Store → Store
+unwithdrawn c granted before after = cond granted after (withSlots after (before .slots))
+
+pub keepsTokens : Server
+keepsTokens = leavingFrom unwithdrawn
+
+-- a code that is shown again withdraws its tokens, whoever shows it
+unfoldable pub withdrawn : Call → Bool → Store → Store → Store
+withdrawn (authorization query decision farm handed) granted before after = after
+withdrawn (token header body handed) granted before after =
+    cond granted after (withSlots after (withoutTokens (readHandle (valueOf body (bytes "code")) .bytes) (after .slots)))
+withdrawn (check presented clock) granted before after = after
+
+pub withdrawsForAnyone : Server
+withdrawsForAnyone = leavingFrom withdrawn
+
 -- ---- servers that read another store than the one handed in
 
 -- "Expiry compared with the clock handed in, not with T.": the mark counts as zero
@@ -190,7 +207,7 @@ handedClock registry store c = ours registry (bigEndianBytes timeSize 0 ++ drop 
 abbrev wide : Slot → Slot
 wide s =
     cond (isSought soughtRefresh s)
-    (record { kind = s .kind; handle = s .handle; client = s .client; farm = s .farm; scope = 255; expiry = s .expiry })
+    (record { kind = s .kind; handle = s .handle; client = s .client; farm = s .farm; scope = 255; expiry = s .expiry; origin = s .origin })
     s
 
 unfoldable pub widened : Call → Store → Store
@@ -284,6 +301,9 @@ module _ (instead : Call → Bool → Store → Store → Store) where
         cond-of SoundSample (r .unfit) after (insteadOn g c) (λ _. s) (λ _. sound c (r .granted) g after w s);
   }
 
+free-slot : SoundSlot (length sampleClients) freeSlot
+free-slot = record { fits = free-fits; fit = fit-free _ }
+
 -- a slot put in place of another
 sound-replaced : (p : Slot → Bool) (s : Slot) → SoundSlot (length sampleClients) s → (g : Store) → SoundSample g
     → SoundSample (withSlots g (replaceFirst p s (g .slots)))
@@ -299,7 +319,7 @@ unfolding spent
 sound-spent (authorization query decision farm handed) granted before after b a = a
 sound-spent (token header body handed) true before after b a = a
 sound-spent (token header body handed) false before after b a =
-    sound-replaced (codeIn body) freeSlot (record { fits = free-fits; fit = fit-free _ }) after a
+    sound-replaced (codeIn body) freeSlot free-slot after a
 sound-spent (check presented clock) granted before after b a = a
 
 sound-put : (c : Call) (granted : Bool) (before after : Store) → SoundSample before → SoundSample after
@@ -320,6 +340,26 @@ sound-unkept (token header body handed) granted before after b a =
     cond-of SoundSample (isCredentials body) (withSlots after (before .slots)) after
     (λ _. record { size = b .size; early = a .early; slots = b .slots }) (λ _. a)
 sound-unkept (check presented clock) granted before after b a = a
+
+sound-unwithdrawn : (c : Call) (granted : Bool) (before after : Store) → SoundSample before → SoundSample after
+    → SoundSample (unwithdrawn c granted before after)
+unfolding unwithdrawn
+sound-unwithdrawn c true before after b a = a
+sound-unwithdrawn c false before after b a = record { size = b .size; early = a .early; slots = b .slots }
+
+sound-withdrawn : (c : Call) (granted : Bool) (before after : Store) → SoundSample before → SoundSample after
+    → SoundSample (withdrawn c granted before after)
+unfolding withdrawn
+sound-withdrawn (authorization query decision farm handed) granted before after b a = a
+sound-withdrawn (token header body handed) true before after b a = a
+sound-withdrawn (token header body handed) false before after b a =
+    let from = comesFrom (readHandle (valueOf body (bytes "code")) .bytes) in
+    record {
+      size = length-replaceAll freeSlot from (after .slots) ∙ a .size;
+      early = a .early;
+      slots = replaceAll-each freeSlot from (SoundSlot (length sampleClients)) free-slot (after .slots) (a .slots);
+    }
+sound-withdrawn (check presented clock) granted before after b a = a
 
 abbrev readingModel : (Call → Store → Store) → Model
 readingModel instead = record {
@@ -352,14 +392,22 @@ sound-wide s w = cond-of (SoundSlot (length sampleClients)) (isSought soughtRefr
   where
     by : isSought soughtRefresh s ≡ true
         → SoundSlot (length sampleClients)
-        (record { kind = s .kind; handle = s .handle; client = s .client; farm = s .farm; scope = 255; expiry = s .expiry })
+        (record { kind = s .kind; handle = s .handle; client = s .client; farm = s .farm; scope = 255; expiry = s .expiry; origin = s .origin })
     by e =
         let used : isUsed s ≡ true = rw (eqb-true (s .kind) kindRefresh e) in
         let u = fit-used (length sampleClients) s used (w .fit) in
         let f = w .fits in
         record {
-          fits = record { kind = f .kind; handle = f .handle; client = f .client; farm = f .farm; scope = lit< tt; expiry = f .expiry };
-          fit = used-fit (length sampleClients) _ used (record { kind = u .kind; client = u .client; scope = lit< tt });
+          fits = record {
+            kind = f .kind;
+            handle = f .handle;
+            client = f .client;
+            farm = f .farm;
+            scope = lit< tt;
+            expiry = f .expiry;
+            origin = f .origin;
+          };
+          fit = used-fit (length sampleClients) _ used (record { kind = u .kind; client = u .client; scope = lit< tt; origin = u .origin });
         }
 
 sound-widened : (c : Call) (g : Store) → SoundSample g → SoundSample (widened c g)
@@ -423,6 +471,13 @@ tried = authorizeAt 1000 0 ∷ wrongTry ∷ []
 unfoldable pub exchanged : List Call
 exchanged = authorizeAt 1000 0 ∷ exchangeAt 1500 ∷ []
 
+-- and shown again at 1505, by its client and by the other
+unfoldable pub shownAgain : List Call
+shownAgain = authorizeAt 1000 0 ∷ exchangeAt 1500 ∷ tokenAt header (repeating codeText) 1505 0x60 ∷ []
+
+unfoldable pub shownByOther : List Call
+shownByOther = authorizeAt 1000 0 ∷ exchangeAt 1500 ∷ tokenAt [] (byBarnapp codeText) 1505 0x60 ∷ []
+
 -- a refresh that asks for more than was granted, and one that asks for nothing
 unfoldable wider : List ℕ
 wider = refreshFor refreshText (bytes "&scope=power+pump")
@@ -481,10 +536,19 @@ record Computed : Type 0 where
   first : firstWrong true false ≡ true
   spends : exchangeTests (leavingModel spent) tried 1520 0x20 ≡ true
   clears : let g = leftAfter (leavingModel spent) fresh visit in
-      all (spendsSlot wrongTry (comesTo (leavingModel spent) visit wrongTry) g (leavingModel spent .left g wrongTry) 0) ≡ true
+      all
+      (spendsSlot (containedAfter (leavingModel spent) visit) wrongTry (comesTo (leavingModel spent) visit wrongTry) g
+      (leavingModel spent .left g wrongTry) 0)
+      ≡ true
   handed : exchangeTests (readingModel untimed) night 1100 0x20 ≡ true
   seconds : checkTests (answeringModel oneMore) exchanged namesWrongly accessText ≡ true
   twice : exchangeTests (leavingModel putBack) exchanged 1510 0x60 ≡ true
+  again-typed : every isTyped shownAgain ≡ true
+  again-fits : every isFitting shownAgain ≡ true
+  other-typed : every isTyped shownByOther ≡ true
+  other-fits : every isFitting shownByOther ≡ true
+  keeps : checkTests (leavingModel unwithdrawn) shownAgain passesWrongly accessText ≡ true
+  withdraws : checkTests (leavingModel withdrawn) shownByOther passesWrongly accessText ≡ true
   widens : tokenTests (readingModel widened) exchanged refreshesWrongly wider 1510 0x60 ≡ true
   never : checkTests (answeringModel notPassed) exchanged passesWrongly accessText ≡ true
   itself-typed : every isTyped itself ≡ true
@@ -499,7 +563,7 @@ record Computed : Type 0 where
   refuses : tokenTests (stockModel false) [] credentialsWrongly (ownFor []) 1100 0x20 ≡ true
 
 computed : Computed
-unfolding firstWrong untouchedModel spent putBack unkept widened itself ownFor ownText wrongTry tried exchanged wider again visit night handedAt authorizeAt header exchangeOf repeating byBarnapp tokenAt codeText accessText refreshText exchangeAt refreshFor isTyped unfitTo isFitting isNamedWrongly leftAfter eventsAfter rfcQuery handedTo asked outcomeOn withEvents withEvent isUnfit isUnfitDecision isUnfitRefusal isUnfitCheck isGranted lengthOf isPassed namedIn isLiveCheck namedBy standingAfter issuedBy codeIssue exchangeIssues refreshIssues ownIssue isEndedBy noIssue isWithinGranted noneBeyond askedOr namesOr isAdmitted idIn isRepeatedBy mayExchange mayRefresh mayHaveOwn mayPass twenties distinct keep count any firstOr replaceFirst freeSlot fresh every same indexOf splitOn grow hexText hexDigit hexValue readHandle isHandleText unhex isBase64 base64Bytes groupBytes soundGroup sextet none encodeForm encodeByte decodeAfter firstByte extra isEscape plain wellFormed sound isWellFormedForm pieceName pieceValue gives add valueIn formValue names bitFrom bitOf union readScope chosen spaced scopeText indexWhere sampleClients sampleConfidential samplePublic isGrant isMissing isRepeated onlyValue isOnce askedBy scopeAsked fits scopeGiven isBadQuery queryClient isBadClient isBadRedirect isSoundState isBadState isInvalidRequest isOtherType isInvalidScope codeAsked pageReasons redirectReasons readAuthorization separator stateText location codeParameter errorParameter locationText isInvalidForm lowerCase sameAnyCase credentials isBadHeader headerId headerSecret presentedId presentedSecret isUnclearId isImpostor callClient isInvalidClient formReasons readExchange readRefresh readCredentials readGrant readToken wordText errorReply refusalReply tokenReply refreshMember challenges replyText firstOf unlessRefused refusedPlan codePlan exchangePlan refreshPlan credentialsPlan planFor slotsBy checkSlots serveAuthorization serveToken serveCheck
+unfolding firstWrong untouchedModel spent putBack unkept unwithdrawn withdrawn shownAgain shownByOther widened itself ownFor ownText wrongTry tried exchanged wider again visit night handedAt authorizeAt header exchangeOf repeating byBarnapp tokenAt codeText accessText refreshText exchangeAt refreshFor isTyped unfitTo isFitting isNamedWrongly leftAfter eventsAfter rfcQuery handedTo asked outcomeOn withEvents withEvent isUnfit isUnfitDecision isUnfitRefusal isUnfitCheck isGranted lengthOf isPassed namedIn isLiveCheck namedBy standingAfter issuedBy codeIssue exchangeIssues refreshIssues ownIssue isSpentBy isSecondShowing codeShown isWithdrawnBy noIssue isWithinGranted noneBeyond askedOr namesOr isAdmitted idIn isRepeatedBy mayExchange mayRefresh mayHaveOwn mayPass twenties distinct keep count any firstOr replaceFirst replaceAll freeSlot fresh every same indexOf splitOn grow hexText hexDigit hexValue readHandle isHandleText unhex isBase64 base64Bytes groupBytes soundGroup sextet none encodeForm encodeByte decodeAfter firstByte extra isEscape plain wellFormed sound isWellFormedForm pieceName pieceValue gives add valueIn formValue names bitFrom bitOf union readScope chosen spaced scopeText indexWhere sampleClients sampleConfidential samplePublic isGrant isMissing isRepeated onlyValue isOnce askedBy scopeAsked fits scopeGiven isBadQuery queryClient isBadClient isBadRedirect isSoundState isBadState isInvalidRequest isOtherType isInvalidScope codeAsked pageReasons redirectReasons readAuthorization separator stateText location codeParameter errorParameter locationText isInvalidForm lowerCase sameAnyCase credentials isBadHeader headerId headerSecret presentedId presentedSecret isUnclearId isImpostor callClient isInvalidClient formReasons readExchange readRefresh readCredentials readGrant readToken wordText errorReply refusalReply tokenReply refreshMember challenges replyText firstOf unlessRefused refusedPlan codePlan exchangePlan refreshPlan credentialsPlan planFor slotsBy checkSlots serveAuthorization serveToken serveCheck
 computed = record {
   visit-typed = refl;
   visit-fits = refl;
@@ -517,6 +581,12 @@ computed = record {
   handed = refl;
   seconds = refl;
   twice = refl;
+  again-typed = refl;
+  again-fits = refl;
+  other-typed = refl;
+  other-fits = refl;
+  keeps = refl;
+  withdraws = refl;
   widens = refl;
   never = refl;
   itself-typed = refl;
@@ -544,6 +614,11 @@ exchange-refuted f cs typed fits clock first small e =
     let t = tested-calls cs typed in
     let handed = handedAt clock 40 first in
     record { typed = t; fails = exchange-fails f cs t fits header (repeating codeText) handed (tested-bytes (handed .random) small) e }
+
+pass-refuted : {server : Server} {m : Model} → Follows server m → (cs : List Call) → every isTyped cs ≡ true → every isFitting cs ≡ true
+    → (presented : List ℕ) → checkTests m cs passesWrongly presented ≡ true → Refuted server cs
+pass-refuted f cs typed fits presented e =
+    let t = tested-calls cs typed in record { typed = t; fails = pass-fails f cs t fits presented 1510 e }
 
 -- a store with a time is not fresh
 later-store : (g : Store) → SoundSample g → not (eqb (g .time) 0) ≡ true → isFresh g ≡ false
@@ -586,6 +661,9 @@ pub record Useless : Type 0 where
   pub forgets-itself : Refuted forgetsOwn itself
   -- the second exchange, at 1510
   pub twice-exchanged : Refuted codeTwice exchanged
+  -- the check at 1510, of a token whose code was shown again by its client, and by another
+  pub keeps-again : Refuted keepsTokens shownAgain
+  pub withdraws-other : Refuted withdrawsForAnyone shownByOther
   -- the refresh at 1510, which asks for more
   pub widens-exchanged : Refuted widensScope exchanged
   -- the location at 1000, the reply to a client for itself and that to the exchange at 1100, the reply to the refresh at 1510
@@ -599,7 +677,7 @@ pub record Useless : Type 0 where
   pub yields-none : Refuted yieldsAlways []
 
 pub useless : Useless
-unfolding inventedSeconds neverPasses writesNothing saysNoLength spendsOnRefusal codeTwice forgetsOwn yieldsAlways AllWellTyped every handedAt tokenAt wrongTry
+unfolding inventedSeconds neverPasses writesNothing saysNoLength spendsOnRefusal codeTwice forgetsOwn keepsTokens withdrawsForAnyone yieldsAlways AllWellTyped every handedAt tokenAt wrongTry
 useless =
     let visit-typed = tested-calls visit (computed .visit-typed) in
     let exchanged-typed = tested-calls exchanged (computed .exchanged-typed) in
@@ -625,21 +703,20 @@ useless =
             name-fails (answering-follows oneMore (λ c r. refl)) exchanged exchanged-typed (computed .exchanged-fits) accessText 1510
             (computed .seconds);
       };
-      never-exchanged = record {
-        typed = exchanged-typed;
-        fails =
-            pass-fails (answering-follows notPassed (λ c r. refl)) exchanged exchanged-typed (computed .exchanged-fits) accessText 1510
-            (computed .never);
-      };
-      forgets-itself = record {
-        typed = tested-calls itself (computed .itself-typed);
-        fails =
-            pass-fails (leaving-follows unkept sound-unkept) itself (tested-calls itself (computed .itself-typed)) (computed .itself-fits) ownText 1510
-            (computed .forgets);
-      };
+      never-exchanged =
+          pass-refuted (answering-follows notPassed (λ c r. refl)) exchanged (computed .exchanged-typed) (computed .exchanged-fits) accessText
+          (computed .never);
+      forgets-itself =
+          pass-refuted (leaving-follows unkept sound-unkept) itself (computed .itself-typed) (computed .itself-fits) ownText (computed .forgets);
       twice-exchanged =
           exchange-refuted (leaving-follows putBack sound-put) exchanged (computed .exchanged-typed) (computed .exchanged-fits) 1510 0x60 refl
           (computed .twice);
+      keeps-again =
+          pass-refuted (leaving-follows unwithdrawn sound-unwithdrawn) shownAgain (computed .again-typed) (computed .again-fits) accessText
+          (computed .keeps);
+      withdraws-other =
+          pass-refuted (leaving-follows withdrawn sound-withdrawn) shownByOther (computed .other-typed) (computed .other-fits) accessText
+          (computed .withdraws);
       widens-exchanged = record {
         typed = exchanged-typed;
         fails =
@@ -690,9 +767,18 @@ unmet {cs = cs} r claim = r .fails (claim cs (r .typed))
 module _ (registry : List ℕ) where
   nothing-stands : (b : List ℕ) (k : Contents) → k .standing ≡ [] → (cs : List Call)
       → withEvents (clientsOf registry) k (events refusesEveryone registry b cs) .standing ≡ []
-  unfolding refusesEveryone events withEvents withEvent standingAfter
+  unfolding refusesEveryone events withEvents withEvent standingAfter keep
   nothing-stands b k e [] = e
-  nothing-stands b k e (c ∷ cs) = nothing-stands b _ e cs
+  nothing-stands b k e (c ∷ cs) =
+      let t = max (handedTo c .clock) (k .highest) in
+      nothing-stands b _ (ap (λ (l : List Issue). keep (λ x. not (isWithdrawnBy (clientsOf registry) t l c x)) l) e) cs
+
+  -- so that nothing is shown twice
+  nothing-shown : (t : ℕ) (c : Call) → isSecondShowing (clientsOf registry) t [] c ≡ false
+  unfolding isSecondShowing any
+  nothing-shown t (authorization query decision farm handed) = refl
+  nothing-shown t (token h b handed) = and-false (isAdmitted (clientsOf registry) h b && isExchange b)
+  nothing-shown t (check presented clock) = refl
 
   pub refusing-meets : (cs : List Call) → Demand3 refusesEveryone registry cs
   unfolding refusesEveryone mayExchange mayRefresh mayPass any
@@ -707,7 +793,7 @@ module _ (registry : List ℕ) where
         refreshReplies = λ header body handed asks is granted. absurd (false≢true granted);
         credentialsReplies = λ header body handed asks is granted. absurd (false≢true granted);
         locates = λ query decision farm handed judged granted. absurd (false≢true granted);
-        spendsNothing = λ c refused i below. refl;
+        spendsNothing = λ c judged refused i below. rw (none, nothing-shown _ c);
       }
 
 -- beyond the demand it is shut out: a confidential client that asks for itself must be served

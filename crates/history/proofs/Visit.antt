@@ -11,7 +11,7 @@ use Prim.Native.Nat.{ℕ, _+_, _*_, _-_, _^_, _<_, max}
 use borrow.Author.Tests.{ltb-true}
 use lib.Dec.{ltb, lit<}
 use lib.Seq.{sets}
-use lib.ListN.{length, take}
+use lib.ListN.{length, take, replicate}
 use Rattle.octets.specs.Text.{bytes}
 use Rattle.octets.specs.Lists.{part, every, same, indexOf, splitOn, grow}
 use Rattle.octets.specs.Search.{count, keep, indexWhere, any, firstOr}
@@ -34,8 +34,9 @@ use Rattle.protocol.specs.Token.{readToken, tokenReply, refreshMember, readExch
 use Rattle.protocol.specs.Outcomes.{Handed}
 use Rattle.protocol.proofs.Starred.{countUp, rfcQuery}
 use Rattle.history.specs.Calls.{Call, authorization, token, check, WellTyped, AllWellTyped, Result, storeAfterAll, events, freshStore, handedTo}
-use Rattle.history.specs.Contents.{code, access, refresh, Issue, isA, isLiveAt, isOf, originOf, valueOf, isExchange, isRefresh, isCredentials, askedOr, idIn, caller, firstTwenty, lastTwenty, Contents, nothingYet, withEvents, twenties, noIssue, noneBeyond, isWithinGranted, namesOr}
-use Rattle.history.specs.Claim.{isAdmitted, mayExchange, mayRefresh, mayHaveOwn, mayPass, Answers, contained, next, Judged, Asks, Demand3, isRepeatedBy}
+use Rattle.history.specs.Contents.{code, access, refresh, Issue, isA, isLiveAt, isOf, originOf, valueOf, isExchange, isRefresh, isCredentials, askedOr, idIn, caller, isAdmitted, isSecondShowing, codeShown, firstTwenty, lastTwenty, Contents, nothingYet, withEvents, twenties, noIssue, noneBeyond, isWithinGranted, namesOr}
+use Rattle.history.specs.Slots.{holdsTokenFrom}
+use Rattle.history.specs.Claim.{mayExchange, mayRefresh, mayHaveOwn, mayPass, Answers, contained, next, Judged, Asks, Demand3, isRepeatedBy}
 use Rattle.history.specs.Server.{ours}
 use Rattle.history.proofs.SoundStores.{sound-fresh}
 use Rattle.history.proofs.AnyCall.{unfitTo}
@@ -44,7 +45,7 @@ use Rattle.history.proofs.Theorem.{demand3, credentials-yield}
 use Rattle.history.proofs.CallsOnRecords.{resultOn, leftByAll, eventsOn, isFitting, Replayed, replay, replay-result, replay-fit}
 pub use Rattle.history.proofs.Sample.{sample-clients, sample-bytes}
 use Rattle.history.proofs.Sample.{sample-fit, tested-bytes, distinct-never}
-use Rattle.history.proofs.Examples.{inVisit, asking, exchangeAt, authorizeAt, codeText, lessText, refreshText, againText, barnQuery, barnAccess, barnBody, handedAt, header, codedHeader, exchangeOf, repeating, tokenAt, refreshFor, visit, day, evening, Case, Cases, cases, yields, may, isTyped, isAsked, isJudged, leftIn, containedIn, inDay, inEvening, claimAgrees, agreesOn, agrees, computed, accessText, barnCode, barnText, barnToken, codeUntil, redirect, tokenUntil, ownFor, ownText, lessOwnText, pumps, ownUntil, inPumps}
+use Rattle.history.proofs.Examples.{inVisit, asking, exchangeAt, authorizeAt, codeText, lessText, refreshText, againText, barnQuery, barnAccess, barnBody, handedAt, header, codedHeader, exchangeOf, repeating, tokenAt, refreshFor, visit, day, evening, leak, Case, Cases, cases, yields, may, isTyped, isAsked, isJudged, leftIn, containedIn, inDay, inEvening, inLeak, claimAgrees, agreesOn, agrees, computed, accessText, barnCode, barnText, barnToken, codeUntil, redirect, tokenUntil, ownFor, ownText, lessOwnText, pumps, ownUntil, inPumps}
 
 -- ---- what the claim speaks of
 
@@ -220,10 +221,20 @@ module _ (run : Run) where
   by-locates query decision farm handed j granted =
       rw (← sample-clients) (claims .locates query decision farm handed (judged (authorization query decision farm handed) j) granted)
 
-  by-spends-nothing : (c : Call) → after c .granted ≡ false
-      → (i : ℕ) → i < 512 → part (after c .store) (8 + i * 35) 35 ≡ part (encodeStore (leftIn cs)) (8 + i * 35) 35
-  by-spends-nothing c refused i below =
-      claims .spendsNothing c refused i below ∙ ap (λ (b : List ℕ). part b (8 + i * 35) 35) store-is
+  by-spends-nothing : (c : Call) → isJudged k c ≡ true → after c .granted ≡ false
+      → (i : ℕ) → i < 512
+      → let slot = part (encodeStore (leftIn cs)) (8 + i * 55) 55 in
+      let second = isSecondShowing sampleClients (max (handedTo c .clock) (k .highest)) (k .standing) c in
+      part (after c .store) (8 + i * 55) 55 ≡ cond (second && holdsTokenFrom (codeShown c) slot) (replicate 55 0) slot
+  by-spends-nothing c j refused i below =
+      let Left : Bool → List ℕ → List ℕ = λ second b.
+      let slot = part b (8 + i * 55) 55 in cond (second && holdsTokenFrom (codeShown c) slot) (replicate 55 0) slot
+      in
+      let second =
+      ap (λ (clients : List Client). isSecondShowing clients (max (handedTo c .clock) (contained ours sampleRegistry cs .highest)) (contained ours sampleRegistry cs .standing) c) sample-clients
+      ∙ ap (λ (x : Contents). isSecondShowing sampleClients (max (handedTo c .clock) (x .highest)) (x .standing) c) contents-are
+      in
+      claims .spendsNothing c (judged c j) refused i below ∙ ap₂ Left second store-is
 
   -- what the server does is what the claim asks
   pub claimed : (c : Call) → isAsked c ≡ true → isJudged k c ≡ true → yields c (after c) ≡ may k c
@@ -333,9 +344,14 @@ pub record Shown : Type 0 where
       ≡ bytes "https://barn.example/r?x=1&code=c0c1c2c3c4c5c6c7c8c9cacbcccdcecfd0d1d2d3"
   -- a try without the redirect_uri is refused, and the code's slot, bound, for client 0, farm 7, scopes 10 and until 2106, keeps its bytes
   pub kept : (i : ℕ) → i < 512
-      → part (afterDay (asking header (exchangeOf lessText) 1510) .store) (8 + i * 35) 35 ≡ part (encodeStore (leftIn day)) (8 + i * 35) 35
-  pub kept-code : part (afterDay (asking header (exchangeOf lessText) 1510) .store) (8 + 4 * 35) 35
-      ≡ 2 ∷ countUp 20 3 ++ 0 ∷ 0 ∷ 0 ∷ 0 ∷ 7 ∷ 10 ∷ 0 ∷ 0 ∷ 0 ∷ 0 ∷ 0 ∷ 0 ∷ 8 ∷ 58 ∷ []
+      → part (afterDay (asking header (exchangeOf lessText) 1510) .store) (8 + i * 55) 55 ≡ part (encodeStore (leftIn day)) (8 + i * 55) 55
+  pub kept-code : part (afterDay (asking header (exchangeOf lessText) 1510) .store) (8 + 5 * 55) 55
+      ≡ 2 ∷ countUp 20 3 ++ 0 ∷ 0 ∷ 0 ∷ 0 ∷ 7 ∷ 10 ∷ 0 ∷ 0 ∷ 0 ∷ 0 ∷ 0 ∷ 0 ∷ 8 ∷ 58 ∷ replicate 20 0
+  -- the exchanged code is shown again: its access token's slot is zero, its own keeps its bytes, and the token no longer passes
+  pub cleared : part (afterDay (asking header (exchangeOf codeText) 1510) .store) (8 + 55) 55 ≡ replicate 55 0
+  pub kept-spent : part (afterDay (asking header (exchangeOf codeText) 1510) .store) 8 55
+      ≡ 5 ∷ countUp 20 0 ++ 0 ∷ 0 ∷ 0 ∷ 0 ∷ 7 ∷ 11 ∷ 0 ∷ 0 ∷ 0 ∷ 0 ∷ 0 ∷ 0 ∷ 6 ∷ 64 ∷ replicate 20 0
+  pub withdrawn : next ours sampleRegistry leak (check accessText 1601) .passed ≡ false
 
 unfoldable pub theVisit : Run
 theVisit = record { calls = visit; typed = computed .visit-typed; contents = inVisit; contains = computed .visit-contains }
@@ -346,11 +362,14 @@ theDay = record { calls = day; typed = computed .day-typed; contents = inDay; co
 pub theEvening : Run
 theEvening = record { calls = evening; typed = computed .evening-typed; contents = inEvening; contains = computed .evening-contains }
 
+pub theLeak : Run
+theLeak = record { calls = leak; typed = computed .leak-typed; contents = inLeak; contains = computed .leak-contains }
+
 pub thePumps : Run
 thePumps = record { calls = pumps; typed = computed .pumps-typed; contents = inPumps; contains = computed .pumps-contain }
 
 pub shown : Shown
-unfolding thePumps ownFor ownText lessOwnText ownUntil inPumps mayHaveOwn theVisit theDay theEvening inVisit barnText redirect codeUntil tokenUntil barnCode inDay barnBody barnToken barnAccess inEvening isTyped isAsked isJudged handedAt authorizeAt header exchangeOf repeating tokenAt codeText accessText refreshText exchangeAt refreshFor barnQuery againText lessText rfcQuery handedTo unfitTo isFitting noIssue noneBeyond isWithinGranted namesOr askedOr twenties idIn isAdmitted isRepeatedBy mayExchange mayRefresh distinct count any firstOr every same indexOf splitOn grow hexText hexDigit hexValue isBase64 base64Bytes groupBytes soundGroup sextet none decodeAfter firstByte extra isEscape plain wellFormed sound encode encodeByte isWellFormedForm pieceName pieceValue gives add valueIn formValue names bitFrom bitOf union readScope chosen spaced scopeText indexWhere sampleClients sampleConfidential samplePublic isMissing isRepeated onlyValue isOnce askedBy scopeAsked isSoundState separator stateText location codeParameter isInvalidForm lowerCase sameAnyCase credentials isBadHeader headerId headerSecret presentedId presentedSecret isUnclearId isImpostor callClient isInvalidClient formReasons readExchange readRefresh readGrant readToken tokenReply refreshMember firstOf unlessRefused
+unfolding theLeak inLeak isSecondShowing codeShown mayPass thePumps ownFor ownText lessOwnText ownUntil inPumps mayHaveOwn theVisit theDay theEvening inVisit barnText redirect codeUntil tokenUntil barnCode inDay barnBody barnToken barnAccess inEvening isTyped isAsked isJudged handedAt authorizeAt header exchangeOf repeating tokenAt codeText accessText refreshText exchangeAt refreshFor barnQuery againText lessText rfcQuery handedTo unfitTo isFitting noIssue noneBeyond isWithinGranted namesOr askedOr twenties idIn isAdmitted isRepeatedBy mayExchange mayRefresh distinct count any firstOr every same indexOf splitOn grow hexText hexDigit hexValue isBase64 base64Bytes groupBytes soundGroup sextet none decodeAfter firstByte extra isEscape plain wellFormed sound encode encodeByte isWellFormedForm pieceName pieceValue gives add valueIn formValue names bitFrom bitOf union readScope chosen spaced scopeText indexWhere sampleClients sampleConfidential samplePublic isMissing isRepeated onlyValue isOnce askedBy scopeAsked isSoundState separator stateText location codeParameter isInvalidForm lowerCase sameAnyCase credentials isBadHeader headerId headerSecret presentedId presentedSecret isUnclearId isImpostor callClient isInvalidClient formReasons readExchange readRefresh readGrant readToken tokenReply refreshMember firstOf unlessRefused
 shown = record {
   in-time = record { exchange = refl; asked = refl; judged = refl; says = refl };
   too-late = record { exchange = refl; asked = refl; judged = refl; says = refl };
@@ -409,9 +428,19 @@ shown = record {
       (by-locates theDay barnQuery 1 9 handed refl
       (ap (λ (r : Result). r .granted) (result-is theDay (authorization barnQuery 1 9 handed) refl) ∙ computed .barn-granted));
   kept =
-      by-spends-nothing theDay (asking header (exchangeOf lessText) 1510)
+      by-spends-nothing theDay (asking header (exchangeOf lessText) 1510) refl
       (by-exchanges theDay header (exchangeOf lessText) (handedAt 1510 40 0xC0) refl refl refl);
   kept-code =
-      by-spends-nothing theDay (asking header (exchangeOf lessText) 1510)
-      (by-exchanges theDay header (exchangeOf lessText) (handedAt 1510 40 0xC0) refl refl refl) 4 (lit< tt) ∙ computed .code-kept;
+      by-spends-nothing theDay (asking header (exchangeOf lessText) 1510) refl
+      (by-exchanges theDay header (exchangeOf lessText) (handedAt 1510 40 0xC0) refl refl refl) 5 (lit< tt) ∙ computed .code-kept;
+  cleared =
+      by-spends-nothing theDay (asking header (exchangeOf codeText) 1510) refl
+      (by-exchanges theDay header (exchangeOf codeText) (handedAt 1510 40 0xC0) refl refl refl) 1 (lit< tt)
+      ∙ ap (λ (b : Bool). cond b (replicate 55 0) (part (encodeStore (leftIn day)) (8 + 55) 55)) (computed .token-held);
+  kept-spent =
+      by-spends-nothing theDay (asking header (exchangeOf codeText) 1510) refl
+      (by-exchanges theDay header (exchangeOf codeText) (handedAt 1510 40 0xC0) refl refl refl) 0 (lit< tt)
+      ∙ ap (λ (b : Bool). cond b (replicate 55 0) (part (encodeStore (leftIn day)) 8 55)) (computed .none-held)
+      ∙ computed .code-spent;
+  withdrawn = by-passes theLeak accessText 1601 refl;
 }

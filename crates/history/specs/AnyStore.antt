@@ -5,23 +5,26 @@
 -- number has 32 bits. Which inputs are unfit, and what is answered then, the claim says in its own words.
 use Prim.Native.Nat.{ℕ, _^_, _≤_, _<_, max}
 use mathlib.Core.Path.{_≡_}
-use mathlib.Core.Bool.{Bool, true, false, not, _||_}
+use mathlib.Core.Bool.{Bool, true, false, cond, not, _&&_, _||_}
 use mathlib.Core.List.{List, [], _∷_, _++_}
 use lib.Dec.{ltb, eqb}
-use lib.ListN.{length, take, drop}
+use lib.ListN.{length, take, drop, replicate}
 use lib.Seq.{sets}
 use Rattle.octets.specs.Text.{bytes}
-use Rattle.octets.specs.Search.{any}
+use Rattle.octets.specs.Search.{any, firstOr}
 use Rattle.octets.specs.BigEndian.{bigEndian, bigEndianBytes}
 use Rattle.form.specs.Content.{formValue}
 use Rattle.client_registry.specs.Registry.{Client, fitRegistry, clientsOf}
 use Rattle.client_registry.specs.Lookup.{clientAt}
-use Rattle.token_store.specs.Layout.{timeSize}
+use Rattle.token_store.specs.Layout.{timeSize, slotSize, slotCount}
+use Rattle.token_store.specs.Store.{freeSlot, concat, tabulate, slotBytes, decode}
 use Rattle.token_store.specs.Fit.{fitStore}
+use Rattle.token_store.specs.declared.Slot.{Slot}
 use Rattle.protocol.specs.declared.Input.{Input}
 use Rattle.protocol.specs.declared.Input.the-variants.{Buffers, Registry, Store, Clock}
 use Rattle.protocol.specs.declared.Refusal.{Refusal}
-use Rattle.protocol.specs.declared.Refusal.the-variants.{Unfit}
+use Rattle.protocol.specs.declared.ErrorWord.the-variants.{InvalidGrant}
+use Rattle.protocol.specs.declared.Refusal.the-variants.{Unfit, Token}
 use Rattle.protocol.specs.declared.Decision.{Decision}
 use Rattle.protocol.specs.declared.Decision.the-variants.{Grant, Refuse}
 use Rattle.protocol.specs.declared.CheckAnswer.the-variants.{Refused}
@@ -30,6 +33,8 @@ use Rattle.protocol.specs.Authorization.{queryClient, locationText}
 use Rattle.protocol.specs.Token.{refusalReply, challenges}
 use Rattle.protocol.specs.Outcomes.{Handed, Outcome}
 use Rattle.history.specs.Calls.{Call, authorization, token, check, handedTo}
+use Rattle.history.specs.Contents.{valueOf, isExchange, caller, isAdmitted, codeShown}
+use Rattle.history.specs.Slots.{isTextOf, holdsTokenFrom}
 use Rattle.history.specs.Server.{Answer, authorizationAnswer, tokenAnswer, checkAnswer, outcomeOf, isUnfit, isGranted, lengthOf}
 
 -- ---- unfit inputs: refusals 1 to 4
@@ -92,6 +97,38 @@ refusalAnswer (token header body handed) r long =
     tokenAnswer (record { decision = Refuse r; challenge = challenges (refusalStatus r) header; length = long })
 refusalAnswer (check presented clock) r long = checkAnswer (Refused r)
 
+-- ---- the one refusal that changes more: "the same client, authenticated, presents a live spent code (sought only where no unspent
+-- code has its handle)"
+
+-- a code of this text that is not spent, kinds 1 and 2; and one that is, kind 5
+abbrev pub isUnspent : List ℕ → Slot → Bool
+isUnspent text s = (eqb (s .kind) 1 || eqb (s .kind) 2) && isTextOf text (s .handle)
+
+abbrev pub isSpent : List ℕ → Slot → Bool
+isSpent text s = eqb (s .kind) 5 && isTextOf text (s .handle)
+
+-- of the spent codes the lowest counts; where there is none, a free slot, which is never live
+unfoldable pub isShownTwice : List Client → List ℕ → Call → Bool
+isShownTwice clients store (authorization query decision farm handed) = false
+isShownTwice clients store (token header body handed) =
+    let text = valueOf body (bytes "code") in
+    let slots = decode store .slots in
+    let spent = firstOr freeSlot (isSpent text) slots in
+    let t = max (handed .clock) (bigEndian (take timeSize store)) in
+    isAdmitted clients header body && isExchange body
+    && (not (any (isUnspent text) slots) && (ltb t (spent .expiry) && eqb (spent .client) (caller clients header body)))
+isShownTwice clients store (check presented clock) = false
+
+-- "every token with that origin is cleared": its slot is zero, and no other byte changes
+abbrev pub withoutTokensFrom : List ℕ → List ℕ → List ℕ
+withoutTokensFrom text store =
+    take timeSize store
+    ++ concat (tabulate slotCount (λ i. cond (holdsTokenFrom text (slotBytes store i)) (replicate slotSize 0) (slotBytes store i)))
+
+-- what a refusal leaves of a store, but for the clock
+abbrev pub afterRefusal : List Client → List ℕ → Call → List ℕ
+afterRefusal clients store c = cond (isShownTwice clients store c) (withoutTokensFrom (codeShown c) store) store
+
 -- ---- what any answer leaves
 
 -- a store with this clock seen, if it is the highest: the first eight bytes hold the highest, and no other byte changes
@@ -117,9 +154,13 @@ module _ (registry store : List ℕ) (c : Call) where
     pub answers : (r : Refusal) → isUnfit (done .answer) ≡ false → decisionIn (done .answer) ≡ Refuse r
         → let text = refusalText (clientsOf registry) c r in
         (done .answer ≡ refusalAnswer c r (length text)) × (done .output ≡ sets output 0 text)
-    -- "and changes nothing in the ledger but the highest clock seen"; nor does any answer of the check
+    -- "and changes nothing in the ledger but the highest clock seen"; nor does any answer of the check. "that one refusal changes
+    -- more than the mark": a code that is shown twice
     pub refused : isUnfit (done .answer) ≡ false → isGranted (done .answer) ≡ false
-        → done .store ≡ withClock (handedTo c .clock) store
+        → done .store ≡ withClock (handedTo c .clock) (afterRefusal (clientsOf registry) store c)
+    -- of which "the answer is still `invalid_grant`"
+    pub shownTwice : isUnfit (done .answer) ≡ false → isShownTwice (clientsOf registry) store c ≡ true
+        → decisionIn (done .answer) ≡ Refuse (Token InvalidGrant)
     -- a fit store stays fit, whatever is answered
     pub staysFit : isFitFor registry store ≡ true → isFitFor registry (done .store) ≡ true
     -- what is answered is within the output, which keeps its length and every byte beyond what is answered

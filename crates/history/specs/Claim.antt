@@ -1,10 +1,10 @@
 -- Demand 3: one claim about every list of calls, and any server; at the end what is claimed beyond it.
 use Prim.Native.Nat.{ℕ, _+_, _-_, _*_, _<_, max}
 use mathlib.Core.Path.{_≡_}
-use mathlib.Core.Bool.{Bool, true, false, not, _&&_}
+use mathlib.Core.Bool.{Bool, true, false, cond, _&&_}
 use mathlib.Core.List.{List, [], _++_, List·Memᴰ}
 use lib.Dec.{leb, eqb}
-use lib.ListN.{length}
+use lib.ListN.{length, replicate}
 use lib.Seq.{sets}
 use Rattle.octets.specs.Text.{bytes}
 use Rattle.octets.specs.Lists.{part}
@@ -13,30 +13,19 @@ use Rattle.form.specs.Content.{Value, missing, once, repeated, formValue, isOnc
 use Rattle.client_registry.specs.Registry.{Client, clientsOf}
 use Rattle.client_registry.specs.Lookup.{numberOf, clientAt}
 use Rattle.protocol.specs.Authorization.{location, codeParameter}
-use Rattle.protocol.specs.ClientForms.{isInvalidForm, isInvalidClient}
-use Rattle.protocol.specs.Token.{tokenNames, tokenReply, refreshMember}
+use Rattle.protocol.specs.Token.{tokenReply, refreshMember}
 use Rattle.protocol.specs.Outcomes.{Handed}
-use Rattle.history.specs.Calls.{Call, authorization, token, check, Result, Server, storeAfterAll, events, freshStore}
-use Rattle.history.specs.Contents.{code, access, refresh, Issue, isA, isLiveAt, isOf, originOf, valueOf, isExchange, isRefresh, isCredentials, isWithinGranted, askedOr, caller, firstTwenty, lastTwenty, Contents, nothingYet, withEvents, twenties, NeverTwice}
-
--- ---- who is let in
-
--- "Well-formed and admitted means that no refusal listed before `invalid_grant` applies.": of these, `invalid_request` and
--- `invalid_client` by the form and its client. The others the claim says in its own words: which grant is asked for; a code or
--- refresh token that is missing is nothing that was issued; a client that asks for itself must be confidential.
-unfoldable pub isAdmitted : List Client → List ℕ → List ℕ → Bool
-isAdmitted clients header body =
-    not (isInvalidForm tokenNames (bytes "grant_type") header body) && not (isInvalidClient clients header body)
+use Rattle.history.specs.Calls.{Call, authorization, token, check, handedTo, Result, Server, storeAfterAll, events, freshStore}
+use Rattle.history.specs.Slots.{holdsTokenFrom}
+use Rattle.history.specs.Contents.{code, access, refresh, Issue, isA, isLiveAt, isOf, originOf, valueOf, isExchange, isRefresh, isCredentials, isWithinGranted, askedOr, caller, isAdmitted, isSecondShowing, codeShown, firstTwenty, lastTwenty, Contents, nothingYet, withEvents, twenties, NeverTwice}
 
 -- ---- what the calls must contain
 
--- "the codes, access and refresh tokens that the calls issued, not exchanged and live at T, its own code left out, plus
--- the slots needed (two to exchange, one to refresh) are at most 512"; "one slot" for a client's token for itself
-abbrev pub roomToExchange : ℕ → List Issue → List ℕ → Bool
-roomToExchange t standing presented = leb (count (λ e. isLiveAt t e && not (isA code e && isOf presented e)) standing + 2) 512
-
-abbrev pub roomForOne : ℕ → List Issue → Bool
-roomForOne t standing = leb (count (isLiveAt t) standing + 1) 512
+-- "the codes, access and refresh tokens that the calls issued .. and live at T .. plus the slots needed (two to exchange, one to
+-- refresh) are at most 512"; "one slot" for a client's token for itself. "its room counts spent codes until they run out", and an
+-- exchange's own code is no longer "left out of demand 3's room"
+abbrev pub hasRoomFor : ℕ → ℕ → List Issue → Bool
+hasRoomFor needed t standing = leb (count (isLiveAt t) standing + needed) 512
 
 -- "any bound redirect address is repeated"
 unfoldable pub isRepeatedBy : Value → Value → Bool
@@ -55,7 +44,7 @@ module _ (clients : List Client) (t : ℕ) (standing : List Issue) (header body 
 
   -- "and there is room"
   unfoldable pub mayExchange : Bool
-  mayExchange = any isExchangeable standing && roomToExchange t standing (valueOf body (bytes "code"))
+  mayExchange = any isExchangeable standing && hasRoomFor 2 t standing
 
   -- "a live issue of that refresh token to that client, the scope asked is within the one granted"
   abbrev pub isRefreshable : Issue → Bool
@@ -66,13 +55,13 @@ module _ (clients : List Client) (t : ℕ) (standing : List Issue) (header body 
 
   -- "and there is room"
   unfoldable pub mayRefresh : Bool
-  mayRefresh = any isRefreshable standing && roomForOne t standing
+  mayRefresh = any isRefreshable standing && hasRoomFor 1 t standing
 
   -- a client for itself: "confidential clients only", "Scope is as at the authorization counter", "one slot"
   unfoldable pub mayHaveOwn : Bool
   mayHaveOwn =
       let client = clientAt clients (caller clients header body) in
-      client .confidential && isWithinGranted (formValue body (bytes "scope")) (client .scope) && roomForOne t standing
+      client .confidential && isWithinGranted (formValue body (bytes "scope")) (client .scope) && hasRoomFor 1 t standing
 
 -- "a live issue of it as an access token"
 unfoldable pub mayPass : ℕ → List Issue → List ℕ → Bool
@@ -157,9 +146,13 @@ module _ (server : Server) (registry : List ℕ) (cs : List Call) where
         → let redirect = clientAt clients (numberOf (valueOf query (bytes "client_id")) clients) .redirect in
         let parameter = codeParameter (firstTwenty (handed .random)) in
         Answers handed (next (authorization query decision farm handed)) (location redirect parameter (formValue query (bytes "state")))
-    -- "A refused try spends nothing": "after a refused try every slot keeps its bytes", 512 slots of 35 bytes behind the mark
-    pub spendsNothing : (c : Call) → next c .granted ≡ false
-        → (i : ℕ) → i < 512 → part (next c .store) (8 + i * 35) 35 ≡ part store (8 + i * 35) 35
+    -- "A refused try spends nothing": "after a refused try every slot keeps its bytes", 512 slots of 55 bytes behind the mark. "its last
+    -- sentence excepts that one refusal, which clears those tokens and nothing else"
+    pub spendsNothing : (c : Call) → Judged c → next c .granted ≡ false
+        → (i : ℕ) → i < 512
+        → let slot = part store (8 + i * 55) 55 in
+        let clears = isSecondShowing clients (timeAt (handedTo c .clock)) standing c && holdsTokenFrom (codeShown c) slot in
+        part (next c .store) (8 + i * 55) 55 ≡ cond clears (replicate 55 0) slot
 
   -- Beyond the demand, which holds of a server that issues nothing: a well-formed request of an admitted client for itself yields
   -- exactly when the client is confidential, the scope asked is within its set, and there is room for one.

@@ -1,15 +1,16 @@
 -- What a list of calls contains. "What the calls contain is read from their arguments and answers, never from the ledger."
 --
 -- These definitions are the claim's own: they take the texts of a query, a header, a body and an answer, and share with the
--- server only how a form, a scope value, base64 and a registry are read.
+-- server only how a form, a scope value, base64 and a registry are read, and which forms and clients are refused.
 use Prim.Native.Nat.{ℕ, _+_, _≤_, max}
 use mathlib.Core.Bool.{Bool, true, false, cond, not, _&&_, _||_}
-use mathlib.Core.List.{List, [], _∷_, _++_}
-use lib.Dec.{ltb}
-use lib.ListN.{length, take, drop}
+use mathlib.Core.List.{List, [], _∷_, _++_, map}
+use lib.Dec.{eqb, ltb}
+use lib.ListN.{length, take, drop, replicate}
 use Rattle.octets.specs.Text.{bytes}
 use Rattle.octets.specs.Lists.{part, every, same, indexOf}
-use Rattle.octets.specs.Search.{count, firstOr, keep}
+use Rattle.octets.specs.Search.{count, any, firstOr, keep}
+use Rattle.encoding.specs.Hex.{hexText}
 use Rattle.encoding.specs.Base64.{base64Bytes}
 use Rattle.form_coding.specs.Coding.{decode}
 use Rattle.form.specs.Content.{Value, missing, once, repeated, formValue, onlyValue, isOnce}
@@ -19,12 +20,15 @@ use Rattle.scope.specs.declared.ScopeValue.{ScopeValue}
 use Rattle.scope.specs.declared.ScopeValue.the-variants.{Names, Invalid}
 use Rattle.client_registry.specs.Registry.{Client}
 use Rattle.client_registry.specs.Lookup.{numberOf, clientAt}
+use Rattle.protocol.specs.ClientForms.{isInvalidForm, isInvalidClient}
+use Rattle.protocol.specs.Token.{tokenNames}
 use Rattle.history.specs.Calls.{Call, authorization, token, check, handedTo, Result, Event}
 
 -- ---- issues
 
+-- a code is spent once it is exchanged
 pub data Sort : Type 0 where
-  code access refresh : Sort
+  code spent access refresh : Sort
 
 -- what a call issued, and until when it is live
 pub record Issue : Type 0 where
@@ -37,11 +41,14 @@ pub record Issue : Type 0 where
   -- of a code: the redirect address that was given, if any, which must be repeated
   pub address : Value
   pub expiry : ℕ
+  -- the text of the code that it came from; a code, and a client's token for itself, came from itself
+  pub origin : List ℕ
 
 abbrev pub isA : Sort → Issue → Bool
-isA code e = elim (e .sort) [ code ↦ true | access ↦ false | refresh ↦ false ]
-isA access e = elim (e .sort) [ code ↦ false | access ↦ true | refresh ↦ false ]
-isA refresh e = elim (e .sort) [ code ↦ false | access ↦ false | refresh ↦ true ]
+isA code e = elim (e .sort) [ code ↦ true | spent ↦ false | access ↦ false | refresh ↦ false ]
+isA spent e = elim (e .sort) [ code ↦ false | spent ↦ true | access ↦ false | refresh ↦ false ]
+isA access e = elim (e .sort) [ code ↦ false | spent ↦ false | access ↦ true | refresh ↦ false ]
+isA refresh e = elim (e .sort) [ code ↦ false | spent ↦ false | access ↦ false | refresh ↦ true ]
 
 -- "Something is live while T is below its expiry."
 abbrev pub isLiveAt : ℕ → Issue → Bool
@@ -51,15 +58,29 @@ isLiveAt t e = ltb t (e .expiry)
 abbrev pub isOf : List ℕ → Issue → Bool
 isOf presented e = same presented (e .text)
 
--- "Expiry is T plus 600 (code), 3,600 (access), 2,592,000 (refresh)."
+-- an access or refresh token that came from the code of this text
+abbrev pub isTokenFrom : List ℕ → Issue → Bool
+isTokenFrom text e = (isA access e || isA refresh e) && same text (e .origin)
+
+-- "Expiry is T plus 600 (code), 3,600 (access), 2,592,000 (refresh)."; a spent code keeps its own
 abbrev pub lifetime : Sort → ℕ
 lifetime code = 600
+lifetime spent = 0
 lifetime access = 3600
 lifetime refresh = 2592000
 
--- what stands where there is no issue: it is never live
+-- what stands where there is no issue: a code of zeros that is never live
 unfoldable pub noIssue : Issue
-noIssue = record { sort = code; text = []; client = 0; farm = 0; scope = 0; address = missing; expiry = 0 }
+noIssue = record {
+  sort = code;
+  text = hexText (replicate 20 0);
+  client = 0;
+  farm = 0;
+  scope = 0;
+  address = missing;
+  expiry = 0;
+  origin = hexText (replicate 20 0);
+}
 
 -- the issue of this sort and text among those that stand
 abbrev pub originOf : Sort → List ℕ → List Issue → Issue
@@ -111,6 +132,15 @@ idIn (b ∷ bs) body = let pair = base64Bytes (drop 6 (b ∷ bs)) in decode (tak
 abbrev pub caller : List Client → List ℕ → List ℕ → ℕ
 caller clients header body = numberOf (idIn header body) clients
 
+-- ---- who is let in
+
+-- "Well-formed and admitted means that no refusal listed before `invalid_grant` applies.": of these, `invalid_request` and
+-- `invalid_client` by the form and its client. The others the claim says in its own words: which grant is asked for; a code or
+-- refresh token that is missing is nothing that was issued; a client that asks for itself must be confidential.
+unfoldable pub isAdmitted : List Client → List ℕ → List ℕ → Bool
+isAdmitted clients header body =
+    not (isInvalidForm tokenNames (bytes "grant_type") header body) && not (isInvalidClient clients header body)
+
 -- ---- codes and tokens in answers
 
 -- a code or token is 40 characters
@@ -144,32 +174,36 @@ codeIssue clients t query farm r =
       scope = askedOr (formValue query (bytes "scope")) (client .scope);
       address = formValue query (bytes "redirect_uri");
       expiry = t + lifetime code;
+      origin = codeIn client r;
     }
 
--- a token of a sort, on the code or refresh token `origin`
-abbrev pub tokenIssue : Sort → ℕ → List ℕ → Issue → ℕ → Issue
-tokenIssue sort t text origin scope = record {
+-- a token of a sort, on the code or refresh token `shown`, from the code of the text `origin`
+abbrev pub tokenIssue : Sort → ℕ → List ℕ → Issue → List ℕ → ℕ → Issue
+tokenIssue sort t text shown origin scope = record {
   sort = sort;
   text = text;
-  client = origin .client;
-  farm = origin .farm;
+  client = shown .client;
+  farm = shown .farm;
   scope = scope;
   address = missing;
   expiry = t + lifetime sort;
+  origin = origin;
 }
 
+-- "Each access and refresh token records the handle of the code it came from": an access token on a refresh token, of the code that this
+-- one came from
 module _ (t : ℕ) (standing : List Issue) (body : List ℕ) (r : Result) where
   unfoldable pub exchangeIssues : List Issue
   exchangeIssues =
       let o = originOf code (valueOf body (bytes "code")) standing in
-      tokenIssue refresh t (refreshIn r) o (o .scope) ∷ tokenIssue access t (accessIn r) o (o .scope) ∷ []
+      tokenIssue refresh t (refreshIn r) o (o .text) (o .scope) ∷ tokenIssue access t (accessIn r) o (o .text) (o .scope) ∷ []
 
   unfoldable pub refreshIssues : List Issue
   refreshIssues =
       let o = originOf refresh (valueOf body (bytes "refresh_token")) standing in
-      tokenIssue access t (accessIn r) o (askedOr (formValue body (bytes "scope")) (o .scope)) ∷ []
+      tokenIssue access t (accessIn r) o (o .origin) (askedOr (formValue body (bytes "scope")) (o .scope)) ∷ []
 
--- a client's token for itself: "Such tokens carry farm 0"; "No scope means the client's set."
+-- a client's token for itself: "Such tokens carry farm 0"; "No scope means the client's set."; they "record their own" handle
 unfoldable pub ownIssue : List Client → ℕ → List ℕ → List ℕ → Result → Issue
 ownIssue clients t header body r =
     let number = caller clients header body in
@@ -181,6 +215,7 @@ ownIssue clients t header body r =
       scope = askedOr (formValue body (bytes "scope")) (clientAt clients number .scope);
       address = missing;
       expiry = t + lifetime access;
+      origin = accessIn r;
     }
 
 -- "A call that answered with a code or token issued it"; "Demand 3 counts these grants among the issues"
@@ -192,10 +227,49 @@ issuedBy clients t standing (token header body handed) r =
 issuedBy clients t standing (check presented clock) r = []
 
 -- "A code is exchanged once an exchange of it has answered 200."
-unfoldable pub isEndedBy : Call → Issue → Bool
-isEndedBy (authorization query decision farm handed) e = false
-isEndedBy (token header body handed) e = isExchange body && (isA code e && isOf (valueOf body (bytes "code")) e)
-isEndedBy (check presented clock) e = false
+unfoldable pub isSpentBy : Call → Issue → Bool
+isSpentBy (authorization query decision farm handed) e = false
+isSpentBy (token header body handed) e = isExchange body && (isA code e && isOf (valueOf body (bytes "code")) e)
+isSpentBy (check presented clock) e = false
+
+-- "Keep an exchanged code .. until its old expiry."
+abbrev pub asSpent : Issue → Issue
+asSpent e = record {
+  sort = spent;
+  text = e .text;
+  client = e .client;
+  farm = e .farm;
+  scope = e .scope;
+  address = e .address;
+  expiry = e .expiry;
+  origin = e .origin;
+}
+
+-- what becomes of an issue by a call that was granted
+abbrev pub afterGrant : Call → Issue → Issue
+afterGrant c e = cond (isSpentBy c e) (asSpent e) e
+
+-- ---- a code that is shown twice
+
+-- "When the same client, authenticated, presents a live spent code": no unspent one has its text, where no twenty random bytes
+-- come twice
+unfoldable pub isSecondShowing : List Client → ℕ → List Issue → Call → Bool
+isSecondShowing clients t standing (authorization query decision farm handed) = false
+isSecondShowing clients t standing (token header body handed) =
+    let shown = valueOf body (bytes "code") in
+    isAdmitted clients header body && isExchange body
+    && any (λ e. isLiveAt t e && (isA spent e && isOf shown e && eqb (e .client) (caller clients header body))) standing
+isSecondShowing clients t standing (check presented clock) = false
+
+-- the code that a call shows
+unfoldable pub codeShown : Call → List ℕ
+codeShown (authorization query decision farm handed) = []
+codeShown (token header body handed) = valueOf body (bytes "code")
+codeShown (check presented clock) = []
+
+-- it withdraws "every token with that origin", and nothing else
+unfoldable pub isWithdrawnBy : List Client → ℕ → List Issue → Call → Issue → Bool
+isWithdrawnBy clients t standing c e = isSecondShowing clients t standing c && isTokenFrom (codeShown c) e
 
 -- ---- what all calls contain
 
@@ -211,7 +285,8 @@ twenties (authorization query decision farm handed) = handed .random ∷ []
 twenties (token header body handed) = firstTwenty (handed .random) ∷ lastTwenty (handed .random) ∷ []
 twenties (check presented clock) = []
 
--- of the calls seen: the highest clock, the issues that no later call has ended, and the random bytes
+-- of the calls seen: the highest clock, the issues that stand, and the random bytes. An issue stands unless it was withdrawn, and a
+-- code that was exchanged stands as spent
 pub record Contents : Type 0 where
   pub highest : ℕ
   pub standing : List Issue
@@ -221,10 +296,11 @@ pub record Contents : Type 0 where
 abbrev pub nothingYet : Contents
 nothingYet = record { highest = 0; standing = []; randoms = [] }
 
--- what stands after a call at the time t
+-- what stands after a call at the time t: "Demand 3 adds to "live" that no such second showing came earlier"
 unfoldable pub standingAfter : List Client → ℕ → List Issue → Call → Result → List Issue
 standingAfter clients t standing c r =
-    cond (r .granted) (issuedBy clients t standing c r ++ keep (λ e. not (isEndedBy c e)) standing) standing
+    cond (r .granted) (issuedBy clients t standing c r ++ map (afterGrant c) standing)
+    (keep (λ e. not (isWithdrawnBy clients t standing c e)) standing)
 
 -- one event more: "Calls refused with 1 to 4 are neither judged nor seen, and their random bytes don't count."
 unfoldable pub withEvent : List Client → Event → Contents → Contents

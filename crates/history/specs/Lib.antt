@@ -2,13 +2,14 @@
 -- one claim about every call on any store.
 --
 -- Calls: a call, what comes of it, any server, and a run of calls over one registry and one store. Contents: what the calls
--- contain, read from their arguments and answers alone. Claim: what is claimed of every list of calls. Server: our server.
--- AnyStore: what is claimed of every call of it on any store.
+-- contain, read from their arguments and answers alone. Slots: what is looked at in a store's bytes. Claim: what is claimed of every
+-- list of calls. Server: our server. AnyStore: what is claimed of every call of it on any store.
 --
 -- All that a reader must believe stands here. What only serves the proofs, as calls over a store that is a record, is in
 -- proofs/.
 pub mod Calls
 pub mod Contents
+pub mod Slots
 pub mod Claim
 pub mod Server
 pub mod AnyStore

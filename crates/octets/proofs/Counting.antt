@@ -1,8 +1,8 @@
 -- Laws of counts (`count`, `any`) and of what a change of a list does to every count at once. Generic over the element type.
 --
 -- In order: a test as a number; a count by its test; a count by its list (from an index on, `++`, a member, `keep`), and what `keep`
--- keeps; `any` as a count; the first that passes, where at most one does; the list with another element in the place of the first, or
--- of all, that pass; all these through a map.
+-- keeps; `any` as a count; the first that passes, where at most one does; the list with another element in the place of the first, of
+-- all, or of each, that pass; all these through a map.
 --
 -- Not here: the place of the first that passes, and what holds of each element (`Searches`).
 -- Assumes nothing.
@@ -53,6 +53,12 @@ module _ {A : Type 0} where
   unfolding count
   count-le p q [] h = omega arith
   count-le p q (x ∷ xs) h = omega (arith, count-le p q xs h, h x)
+
+  -- two tests of which no element passes both
+  pub count-apart : (p q r : A → Bool) (l : List A) → ((x : A) → bit (p x) + bit (q x) ≤ bit (r x)) → count p l + count q l ≤ count r l
+  unfolding count
+  count-apart p q r [] h = omega arith
+  count-apart p q r (x ∷ xs) h = omega (arith, h x, count-apart p q r xs h)
 
   pub count-and : (p q : A → Bool) (l : List A) → count (λ x. p x && q x) l ≤ count p l
   count-and p q l = count-le (λ x. p x && q x) p l (λ x. bit-and (p x) (q x))
@@ -165,6 +171,15 @@ module _ {A : Type 0} where
       by false e h ih = ih h
 
   -- where at most one passes k, it decides every count of those that pass k
+  pub firstOr-none : (k : A → Bool) (d : A) (l : List A) → any k l ≡ false → firstOr d k l ≡ d
+  unfolding any firstOr
+  firstOr-none k d [] e = refl
+  firstOr-none k d (x ∷ xs) e = by (k x) e (firstOr-none k d xs)
+    where
+      by : (a : Bool) → (a || any k xs) ≡ false → (any k xs ≡ false → firstOr d k xs ≡ d) → cond a x (firstOr d k xs) ≡ d
+      by true e ih = absurd (false≢true (sym e))
+      by false e ih = ih e
+
   pub count-firstOr : (k g : A → Bool) (d : A) (l : List A) → count k l ≤ 1 → g d ≡ false → count (λ x. k x && g x) l ≡ bit (g (firstOr d k l))
   unfolding count firstOr
   count-firstOr k g d [] h e = rw e
@@ -216,24 +231,30 @@ module _ {A : Type 0} where
       by true = ap bit (e ∙ sym (and-false (p x)))
       by false = ap bit (sym (and-true (p x)))
 
-  replaceAll-none : (d : A) (k : A → Bool) (l : List A) → count k l ≡ 0 → replaceAll d k l ≡ l
-  unfolding count replaceAll
-  replaceAll-none d k [] h = refl
-  replaceAll-none d k (x ∷ xs) h = by (k x) h (replaceAll-none d k xs)
+  -- ---- another element in the place of each that passes
+
+  map-none : (f : A → A) (k : A → Bool) (l : List A) → count k l ≡ 0 → map (λ x. cond (k x) (f x) x) l ≡ l
+  unfolding count
+  map-none f k [] h = refl
+  map-none f k (x ∷ xs) h = by (k x) h (map-none f k xs)
     where
-      by : (a : Bool) → bit a + count k xs ≡ 0 → (count k xs ≡ 0 → replaceAll d k xs ≡ xs) → cond a d x ∷ replaceAll d k xs ≡ x ∷ xs
+      by : (a : Bool) → bit a + count k xs ≡ 0 → (count k xs ≡ 0 → map (λ y. cond (k y) (f y) y) xs ≡ xs)
+          → cond a (f x) x ∷ map (λ y. cond (k y) (f y) y) xs ≡ x ∷ xs
       by true h ih = absurd (omega arith)
       by false h ih = ap {B = List A} (λ r. x ∷ r) (ih (omega arith))
 
-  -- where at most one passes, the first is all
-  pub replaceFirst-replaceAll : (d : A) (k : A → Bool) (l : List A) → count k l ≤ 1 → replaceFirst k d l ≡ replaceAll d k l
-  unfolding count replaceFirst replaceAll
-  replaceFirst-replaceAll d k [] h = refl
-  replaceFirst-replaceAll d k (x ∷ xs) h = by (k x) h (replaceFirst-replaceAll d k xs)
+  -- where at most one passes, the first is each
+  pub replaceFirst-map : (f : A → A) (k : A → Bool) (d : A) (l : List A) → count k l ≤ 1
+      → replaceFirst k (f (firstOr d k l)) l ≡ map (λ x. cond (k x) (f x) x) l
+  unfolding count replaceFirst firstOr
+  replaceFirst-map f k d [] h = refl
+  replaceFirst-map f k d (x ∷ xs) h = by (k x) h (replaceFirst-map f k d xs)
     where
-      by : (a : Bool) → bit a + count k xs ≤ 1 → (count k xs ≤ 1 → replaceFirst k d xs ≡ replaceAll d k xs)
-          → cond a (d ∷ xs) (x ∷ replaceFirst k d xs) ≡ cond a d x ∷ replaceAll d k xs
-      by true h ih = ap {B = List A} (λ r. d ∷ r) (sym (replaceAll-none d k xs (omega arith)))
+      by : (a : Bool) → bit a + count k xs ≤ 1
+          → (count k xs ≤ 1 → replaceFirst k (f (firstOr d k xs)) xs ≡ map (λ y. cond (k y) (f y) y) xs)
+          → let y = f (cond a x (firstOr d k xs)) in
+          cond a (y ∷ xs) (x ∷ replaceFirst k y xs) ≡ cond a (f x) x ∷ map (λ y. cond (k y) (f y) y) xs
+      by true h ih = ap {B = List A} (λ r. f x ∷ r) (sym (map-none f k xs (omega arith)))
       by false h ih = ap {B = List A} (λ r. x ∷ r) (ih (omega arith))
 
 -- ---- through a map

@@ -2,25 +2,26 @@
 --
 -- In order: the place of the first that passes: its bound, what stands at it and before it; a scan that goes up to it; the first
 -- that passes, the list with another element in its place, and whether any passes, by that place;
--- whether every one does; what holds of every element; a scan for one that passes, and two lists that agree.
+-- whether every one does; what holds of every element; a scan for one that passes, and two lists that agree; a scan that
+-- replaces all that pass.
 --
 -- Not here: counts, and what a change of elements does to them (`Counting`).
 -- Assumes nothing.
-use lib.Seq.{drop-cons}
+use lib.Seq.{drop-cons, take-all}
 use native.Mathlib.Numerals.{add-one}
 use mathlib.Core.Path.{_≡_, refl, sym, ap, _∙_, ap₂}
 use mathlib.Core.Bool.{Bool, true, false, cond, not, false≢true, _&&_, _||_, or-assoc, or-false}
-use mathlib.Core.List.{List, [], _∷_}
+use mathlib.Core.List.{List, [], _∷_, _++_, map, append-nil}
 use Prim.Native.Nat.{ℕ, zero, suc, _+_, _≤_, _<_}
 use native.Mathlib.Nat.{not-suc-le-zero, le-of-suc-le-suc}
 use native.Mathlib.Decide.{decLt}
 use native.Mathlib.Omega.{arith}
 use borrow.Author.Tests.{lt-ltb}
 use lib.Dec.{ltb, leb·suc-suc}
-use lib.ListN.{length, getD, set, drop, drop-of-length-le}
+use lib.ListN.{length, getD, set, take, drop, drop-of-length-le}
 use Rattle.octets.specs.Lists.{every}
-use Rattle.octets.specs.Search.{any, firstOr, indexWhere, replaceFirst}
-use Rattle.octets.proofs.Booleans.{and-left, and-right}
+use Rattle.octets.specs.Search.{any, firstOr, indexWhere, replaceFirst, replaceAll}
+use Rattle.octets.proofs.Booleans.{cond-of, and-left, and-right}
 
 module _ {A : Type 0} (p : A → Bool) where
   -- ---- the place of the first that passes
@@ -168,3 +169,57 @@ any-agree p q d e (x ∷ xs) [] n h g =
 any-agree p q d e (x ∷ xs) (y ∷ ys) n h g =
     ap₂ _||_ (h 0 (omega arith))
     (any-agree p q d e xs ys (omega arith) (λ k l. h (suc k) (omega arith)) (λ k l m. g (suc k) (omega arith) (omega arith)))
+
+-- ---- another element in the places of all that pass: element by element, and from the first place on
+
+module _ {A : Type 0} (d : A) (k : A → Bool) where
+  pub replaceAll-map : (l : List A) → replaceAll d k l ≡ map (λ x. cond (k x) d x) l
+  unfolding replaceAll
+  replaceAll-map [] = refl
+  replaceAll-map (x ∷ xs) = ap {B = List A} (λ r. cond (k x) d x ∷ r) (replaceAll-map xs)
+
+  pub replaceAll-at : (l : List A) (i : ℕ) → getD (replaceAll d k l) i d ≡ cond (k (getD l i d)) d (getD l i d)
+  unfolding replaceAll
+  replaceAll-at [] i = by (k d)
+    where
+      by : (b : Bool) → d ≡ cond b d d
+      by true = refl
+      by false = refl
+  replaceAll-at (x ∷ xs) zero = refl
+  replaceAll-at (x ∷ xs) (suc i) = replaceAll-at xs i
+
+  pub replaceAll-each : (P : A → Type 0) → P d → (l : List A) → ((i : ℕ) → P (getD l i d)) → (i : ℕ) → P (getD (replaceAll d k l) i d)
+  replaceAll-each P new l h i = rw (replaceAll-at l i) (cond-of P (k (getD l i d)) d (getD l i d) (λ _. new) (λ _. h i))
+
+  -- up to the place i
+  abbrev pub replacedTo : ℕ → List A → List A
+  replacedTo i l = replaceAll d k (take i l) ++ drop i l
+
+  pub replaced-none : (l : List A) → l ≡ replacedTo 0 l
+  unfolding replaceAll
+  replaced-none l = refl
+
+  pub replaced-at : (l : List A) (i : ℕ) → getD (replacedTo i l) i d ≡ getD l i d
+  unfolding replaceAll
+  replaced-at [] zero = refl
+  replaced-at [] (suc i) = refl
+  replaced-at (x ∷ xs) zero = refl
+  replaced-at (x ∷ xs) (suc i) = replaced-at xs i
+
+  -- one place further, where its element passes, and where it does not
+  pub replaced-next : (l : List A) (i : ℕ) → k (getD l i d) ≡ true → set (replacedTo i l) i d ≡ replacedTo (suc i) l
+  unfolding replaceAll
+  replaced-next [] zero e = refl
+  replaced-next [] (suc i) e = refl
+  replaced-next (x ∷ xs) zero e = rw e
+  replaced-next (x ∷ xs) (suc i) e = ap {B = List A} (λ r. cond (k x) d x ∷ r) (replaced-next xs i e)
+
+  pub replaced-past : (l : List A) (i : ℕ) → k (getD l i d) ≡ false → replacedTo i l ≡ replacedTo (suc i) l
+  unfolding replaceAll
+  replaced-past [] zero e = refl
+  replaced-past [] (suc i) e = refl
+  replaced-past (x ∷ xs) zero e = rw e
+  replaced-past (x ∷ xs) (suc i) e = ap {B = List A} (λ r. cond (k x) d x ∷ r) (replaced-past xs i e)
+
+  pub replaced-all : (l : List A) (i : ℕ) → length l ≤ i → replacedTo i l ≡ replaceAll d k l
+  replaced-all l i h = rw (take-all i l h, drop-of-length-le l h) (append-nil (replaceAll d k l))

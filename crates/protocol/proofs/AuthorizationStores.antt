@@ -25,7 +25,7 @@ use Rattle.protocol.specs.Requests.{askedBy, scopeAsked, fits, scopeGive
 use Rattle.protocol.specs.Authorization.{isBadQuery, queryClient, isBadClient, isBadRedirect, isSoundState, isBadState, isInvalidRequest, isOtherType, isInvalidScope, codeAsked, pageReasons, redirectReasons, readAuthorization, separator, stateText, location, codeParameter, errorParameter, locationText}
 use Rattle.protocol.specs.Granting.{refusedPlan, codePlan, planFor, slotsBy}
 use Rattle.protocol.specs.Outcomes.{serveAuthorization}
-use Rattle.protocol.proofs.Cases.{authorization, ShortStore, holding, slot, countUp, Case, Row, row}
+use Rattle.protocol.proofs.Cases.{authorization, ShortStore, holding, slot, from, spent, countUp, Case, Row, row}
 
 -- ---- slots
 
@@ -33,13 +33,17 @@ use Rattle.protocol.proofs.Cases.{authorization, ShortStore, holding, s
 abbrev codeAt : ℕ → Slot
 codeAt t = slot 1 (countUp 20 0) 0 7 11 (t + 600)
 
+-- another client's code, until a time
+abbrev barnCode : ℕ → Slot
+barnCode t = slot 2 (countUp 20 160) 1 9 1 t
+
 -- a refresh token that is live for long
 abbrev other : Slot
-other = slot 4 (countUp 20 100) 1 8 1 9000
+other = from (countUp 20 140) (slot 4 (countUp 20 100) 1 8 1 9000)
 
--- one that runs out at a time
+-- an access token that runs out at a time
 abbrev until : ℕ → Slot
-until t = slot 3 (countUp 20 120) 1 9 1 t
+until t = from (countUp 20 140) (slot 3 (countUp 20 120) 1 9 1 t)
 
 -- a store whose slots are all in use and live but for the first of them
 abbrev crowded : ℕ → List Slot → ShortStore
@@ -166,6 +170,9 @@ roomAndClashes =
     -- one is free
     ∷ row (issued 1000 (crowded 0 (other ∷ freeSlot ∷ [])) (crowded 1000 (other ∷ codeAt 1000 ∷ []))) refl
     ∷ row (issued 1000 (lastly 0 freeSlot) (lastly 1000 (codeAt 1000))) refl
+    -- a code that is spent is in use until its old expiry, and room from then on
+    ∷ row (full (crowded 0 (spent (barnCode 1001) ∷ []))) refl
+    ∷ row (issued 1000 (crowded 0 (other ∷ spent (barnCode 1000) ∷ [])) (crowded 1000 (other ∷ codeAt 1000 ∷ []))) refl
     -- the lowest counts, whether free or run out
     ∷ row (issued 1000 (holding 0 (other ∷ until 999 ∷ [])) (holding 1000 (other ∷ codeAt 1000 ∷ []))) refl
     ∷ row (issued 1000 (crowded 0 (other ∷ freeSlot ∷ until 999 ∷ [])) (crowded 1000 (other ∷ codeAt 1000 ∷ until 999 ∷ []))) refl
@@ -179,15 +186,23 @@ roomAndClashes =
     ∷ row (clash (countUp 20 0) (holding 0 (slot 2 (countUp 20 0) 1 9 1 1001 ∷ []))) refl
     ∷ row (clash (countUp 20 0) (holding 0 (other ∷ slot 3 (countUp 20 0) 1 9 1 1 ∷ []))) refl
     ∷ row (clash (countUp 20 0) (holding 0 (slot 4 (countUp 20 0) 1 9 1 0 ∷ []))) refl
+    ∷ row (clash (countUp 20 0) (holding 0 (slot 5 (countUp 20 0) 1 9 1 1001 ∷ []))) refl
+    ∷ row (clash (countUp 20 0) (holding 0 (other ∷ slot 5 (countUp 20 0) 1 9 1 1000 ∷ []))) refl
     ∷ row (clash (countUp 20 0) (record { time = 0; first = replicate 511 freeSlot; rest = slot 3 (countUp 20 0) 1 9 1 1000 })) refl
     -- they differ from it in the first or the last byte
     ∷ row (issued 1000 (holding 0 (slot 3 (1 ∷ countUp 19 1) 1 9 1 2000 ∷ []))
     (holding 1000 (slot 3 (1 ∷ countUp 19 1) 1 9 1 2000 ∷ codeAt 1000 ∷ []))) refl
     ∷ row (issued 1000 (holding 0 (slot 3 (countUp 19 0 ++ 20 ∷ []) 1 9 1 2000 ∷ []))
     (holding 1000 (slot 3 (countUp 19 0 ++ 20 ∷ []) 1 9 1 2000 ∷ codeAt 1000 ∷ []))) refl
-    -- the zeros of a free slot are no handle
+    -- an origin is no handle of a slot: not of a token that is live, nor of one that has run out
+    ∷ row (issued 1000 (holding 0 (from (countUp 20 0) other ∷ [])) (holding 1000 (from (countUp 20 0) other ∷ codeAt 1000 ∷ []))) refl
+    ∷ row (issued 1000 (crowded 0 (other ∷ from (countUp 20 0) (until 999) ∷ [])) (crowded 1000 (other ∷ codeAt 1000 ∷ []))) refl
+    -- the zeros of a free slot are no handle, nor are those in the place of a code's origin
     ∷ row (answered 1000 1 (replicate 20 0) (holding 0 []) 0 "code=0000000000000000000000000000000000000000"
     (holding 1000 (slot 1 (replicate 20 0) 0 7 11 1600 ∷ []))) refl
+    ∷ row (answered 1000 1 (replicate 20 0) (holding 0 (barnCode 1600 ∷ spent (barnCode 1600) ∷ [])) 0
+    "code=0000000000000000000000000000000000000000"
+    (holding 1000 (barnCode 1600 ∷ spent (barnCode 1600) ∷ slot 1 (replicate 20 0) 0 7 11 1600 ∷ []))) refl
     ∷ []
 
 pub times : List Row

@@ -2,7 +2,7 @@
 --
 -- A case is a call with all that it is handed, and what the paper has for it: the numbers that a C host sees, the text that is
 -- written, and the store after. `Decided` says of a case that the outcome function of its endpoint, from raw bytes, comes to just
--- that, whatever an output of the case's length holds. To compute over the 17,928 bytes of a store would be slow, so `agrees`
+-- that, whatever an output of the case's length holds. To compute over the 28,168 bytes of a store would be slow, so `agrees`
 -- computes on the store as a record, and `decided` is the law that the bytes come to the same. A table is a list of rows, each a case
 -- that agrees by computation; of every table it follows that each of its cases is decided (`all-decided`).
 --
@@ -25,7 +25,7 @@ use Rattle.octets.proofs.Lists.{every-append, same-eq}
 use Rattle.octets.proofs.Searches.{every-each}
 use Rattle.client_registry.specs.Registry.{fitRegistry, clientsOf}
 use Rattle.token_store.specs.Layout.{timeSize, slotCount, storeSize, handleSize, farmSize, expirySize, latestTime}
-use Rattle.token_store.specs.Store.{Store, SlotFits, SlotsFit, freeSlot, encode, decode}
+use Rattle.token_store.specs.Store.{Store, SlotFits, SlotsFit, noOrigin, freeSlot, encode, decode}
 use Rattle.token_store.specs.Fit.{fitSlot, fitStore}
 use Rattle.token_store.specs.declared.Slot.{Slot}
 use Rattle.token_store.proofs.Codec.{length-encode, decode-encode}
@@ -65,9 +65,33 @@ storeOf l = record { time = l .time; slots = slotsOf l }
 abbrev pub holding : ℕ → List Slot → ShortStore
 holding time slots = record { time = time; first = slots; rest = freeSlot }
 
+-- a slot by its fields, the origin being zero, as in codes: "the 20 new ones last, zero in codes"
 abbrev pub slot : (kind : ℕ) (handle : List ℕ) (client farm scope expiry : ℕ) → Slot
-slot kind handle client farm scope expiry =
-    record { kind = kind; handle = handle; client = client; farm = farm; scope = scope; expiry = expiry }
+slot kind handle client farm scope expiry = record {
+  kind = kind;
+  handle = handle;
+  client = client;
+  farm = farm;
+  scope = scope;
+  expiry = expiry;
+  origin = noOrigin;
+}
+
+-- the same with an origin, which tokens have
+abbrev pub from : List ℕ → Slot → Slot
+from origin s = record {
+  kind = s .kind;
+  handle = s .handle;
+  client = s .client;
+  farm = s .farm;
+  scope = s .scope;
+  expiry = s .expiry;
+  origin = origin;
+}
+
+-- what an exchange leaves of its code: "Keep an exchanged code as kind 5, spent, until its old expiry."
+abbrev pub spent : Slot → Slot
+spent code = slot 5 (code .handle) (code .client) (code .farm) (code .scope) (code .expiry)
 
 -- n numbers from k on
 abbrev pub countUp : ℕ → ℕ → List ℕ
@@ -175,6 +199,7 @@ widths s =
     ∷ ltb (s .farm) (256 ^ farmSize)
     ∷ ltb (s .scope) (256 ^ 1)
     ∷ ltb (s .expiry) (256 ^ expirySize)
+    ∷ eqb (length (s .origin)) handleSize
     ∷ []
 
 abbrev pub isWide : Slot → Bool
@@ -213,6 +238,7 @@ sameFields s u =
     ∷ eqb (s .farm) (u .farm)
     ∷ eqb (s .scope) (u .scope)
     ∷ eqb (s .expiry) (u .expiry)
+    ∷ same (s .origin) (u .origin)
     ∷ []
 
 abbrev pub sameSlot : Slot → Slot → Bool
@@ -281,6 +307,7 @@ wide-fits s e =
       farm = ltb-true (s .farm) _ (w .1 .1 .1 .0);
       scope = ltb-true (s .scope) _ (w .1 .1 .1 .1 .0);
       expiry = ltb-true (s .expiry) _ (w .1 .1 .1 .1 .1 .0);
+      origin = eqb-true (length (s .origin)) _ (w .1 .1 .1 .1 .1 .1 .0);
     }
 
 free-wide : isWide freeSlot ≡ true
@@ -335,6 +362,7 @@ slot-eq s u e =
       farm = eqb-true (s .farm) (u .farm) (w .1 .1 .1 .0) j;
       scope = eqb-true (s .scope) (u .scope) (w .1 .1 .1 .1 .0) j;
       expiry = eqb-true (s .expiry) (u .expiry) (w .1 .1 .1 .1 .1 .0) j;
+      origin = same-eq (s .origin) (u .origin) (w .1 .1 .1 .1 .1 .1 .0) j;
     }
 
 slots-eq : (ss us : List Slot) → sameSlots ss us ≡ true → ss ≡ us

@@ -17,7 +17,7 @@ use Rattle.token_store.specs.declared.Slot.{Slot}
 use Rattle.protocol.specs.Refusals.{firstOf}
 use Rattle.protocol.specs.Granting.{checkSlots}
 use Rattle.protocol.specs.Outcomes.{serveCheck}
-use Rattle.protocol.proofs.Cases.{check, ShortStore, holding, slot, countUp, Case, Row, row}
+use Rattle.protocol.proofs.Cases.{check, ShortStore, holding, slot, from, countUp, Case, Row, row}
 
 -- ---- calls
 
@@ -26,7 +26,7 @@ abbrev handle : List ℕ
 handle = countUp 20 171
 
 abbrev access : ℕ → Slot
-access expiry = slot 3 handle 1 (2 ^ 32 - 1) 9 expiry
+access expiry = from (countUp 20 7) (slot 3 handle 1 (2 ^ 32 - 1) 9 expiry)
 
 abbrev named : String
 named = "abacadaeafb0b1b2b3b4b5b6b7b8b9babbbcbdbe"
@@ -71,7 +71,10 @@ checked =
     ∷ row (notLive named 1000 (slot 1 handle 1 7 9 5000 ∷ [])) refl
     ∷ row (notLive named 1000 (slot 2 handle 1 7 9 5000 ∷ [])) refl
     ∷ row (notLive named 1000 (slot 4 handle 1 7 9 5000 ∷ [])) refl
+    ∷ row (notLive named 1000 (slot 5 handle 1 7 9 5000 ∷ [])) refl
     ∷ row (notLive "0000000000000000000000000000000000000000" 1000 []) refl
+    -- nor is the origin of one
+    ∷ row (notLive named 1000 (from handle (slot 3 (countUp 20 7) 1 7 9 5000) ∷ [])) refl
     -- it is found behind slots of other kinds and handles, and at the last place
     ∷ row (live 1000 4000 (slot 4 handle 1 7 9 9000 ∷ slot 3 (countUp 20 172) 0 7 9 9000 ∷ access 5000 ∷ [])) refl
     ∷ row (checks named 1000 (record { time = 0; first = replicate 511 freeSlot; rest = access 5000 })

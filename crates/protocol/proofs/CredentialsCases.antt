@@ -34,9 +34,9 @@ use Rattle.protocol.specs.ClientForms.{isInvalidForm, lowerCase, sameAny
 use Rattle.protocol.specs.Token.{readExchange, readRefresh, readCredentials, readGrant, readToken, errorReply, refusalReply, tokenReply, refreshMember, challenges}
 use Rattle.protocol.specs.Granting.{refusedPlan, exchangePlan, refreshPlan, credentialsPlan, planFor, slotsBy, checkSlots}
 use Rattle.protocol.specs.Outcomes.{replyText, serveToken, serveCheck}
-use Rattle.protocol.proofs.Cases.{check, ShortStore, holding, slot, countUp, Case, Row}
+use Rattle.protocol.proofs.Cases.{check, ShortStore, holding, slot, from, spent, countUp, Case, Row}
 use Rattle.protocol.proofs.TokenRows.{agreesOn, rowOn}
-use Rattle.protocol.proofs.TokenCases.{clients, registry, registry-fit, registry-clients, handle, code, unboundCode, refreshToken, accessToken, until, twin, refreshTwin, some, crowded, at, held, heldBeside, lastUsed, Said, said, invalidRequest, invalidClient, challenged, invalidGrant, invalidScope, unsupported, noRoom, clash, bothTokens, accessAlone, twoHandles, Visit, row, call, refused, refuses, basic, exchange, barn, refreshing}
+use Rattle.protocol.proofs.TokenCases.{clients, registry, registry-fit, registry-clients, handle, code, unboundCode, refreshToken, accessToken, until, twin, refreshTwin, access, refresh, renewed, some, crowded, at, held, heldBeside, lastUsed, Said, said, invalidRequest, invalidClient, challenged, invalidGrant, invalidScope, unsupported, noRoom, clash, bothTokens, accessAloneOf, accessAlone, twoHandles, nextHandles, Visit, row, call, refused, refuses, basic, exchange, barn, refreshing, newAccess, newRefresh}
 
 -- ---- calls
 
@@ -51,18 +51,22 @@ abbrev barnAsks : List ℕ
 barnAsks = forItself ++ bytes "&client_id=barnapp"
 
 -- headers: client 0's with a wrong secret (`gX1fBat3bW`), and client 2's (`mill%202:a%2Bb:%2541`)
-abbrev wrongSecret : List ℕ
+abbrev pub wrongSecret : List ℕ
 wrongSecret = bytes "Basic czZCaGRSa3F0MzpnWDFmQmF0M2JX"
 
-abbrev millBasic : List ℕ
+abbrev pub millBasic : List ℕ
 millBasic = bytes "Basic bWlsbCUyMDI6YSUyQmI6JTI1NDE="
 
 abbrev unauthorized : Said
 unauthorized = said 400 10 0 (bytes "{\"error\":\"unauthorized_client\"}")
 
--- "Such tokens carry farm 0": the client's token, with the random bytes 20 to 33 hex, issued at a time
-abbrev ownToken : ℕ → ℕ → ℕ → Slot
-ownToken client t scope = slot 3 (handle 32) client 0 scope (t + 3600)
+-- "Such tokens carry farm 0" and "record their own" handle as the origin: the client's token with a handle, issued at a time; the same with
+-- the random bytes 20 to 33 hex
+abbrev pub ownTokenOf : List ℕ → ℕ → ℕ → ℕ → Slot
+ownTokenOf new client t scope = from new (slot 3 new client 0 scope (t + 3600))
+
+abbrev pub ownToken : ℕ → ℕ → ℕ → Slot
+ownToken client t scope = ownTokenOf (handle 32) client t scope
 
 -- a client is granted the scope with these names: client 0, its whole set, client 2
 abbrev pub grantsTo : ℕ → List ℕ → List ℕ → String → ℕ → Visit
@@ -104,12 +108,12 @@ checkAt store clock numbers = record {
   after = at clock store;
 }
 
-abbrev checked : (store : ShortStore) (clock : ℕ) (numbers : List ℕ) → agreesOn clients (checkAt store clock numbers) ≡ true → Row
+abbrev pub checked : (store : ShortStore) (clock : ℕ) (numbers : List ℕ) → agreesOn clients (checkAt store clock numbers) ≡ true → Row
 checked store clock numbers agreed = rowOn (checkAt store clock numbers) registry-fit clients registry-clients agreed
 
 -- the same slot, for farm 0
 abbrev farmless : Slot → Slot
-farmless s = slot (s .kind) (s .handle) (s .client) 0 (s .scope) (s .expiry)
+farmless s = from (s .origin) (slot (s .kind) (s .handle) (s .client) 0 (s .scope) (s .expiry))
 
 -- ---- the table
 
@@ -118,7 +122,8 @@ unfolding every same indexOf splitOn grow hexText hexDigit hexValue isHandleText
 credentialsCases =
     -- ---- success, status 200: "confidential clients only .. no refresh token, one slot". The RFC's example, at a fresh store
     row
-    (call (holding 0 []) 1000 twoHandles basic forItself (accessAlone "power peak bill") (holding 1000 (slot 3 (handle 32) 0 0 11 4600 ∷ []))) refl
+    (call (holding 0 []) 1000 twoHandles basic forItself (accessAlone "power peak bill")
+    (holding 1000 (from (handle 32) (slot 3 (handle 32) 0 0 11 4600) ∷ []))) refl
     -- at a store in use; authenticated in the body; with the client_id beside the header; another client, of another number and set
     ∷ row (grantsAll basic forItself) refl
     ∷ row (grantsAll [] (forItself ++ bytes "&client_id=s6BhdRkqt3&client_secret=gX1fBat3bV")) refl
@@ -127,10 +132,8 @@ credentialsCases =
     -- identical requests are never merged: what the first one left, and other random bytes
     ∷ row
     (call (holding 1599 (new ∷ [])) 1599 (countUp 40 100) basic forItself
-    (said 200 0 0
-    (bytes "{\"access_token\":\"6465666768696a6b6c6d6e6f7071727374757677\",\"token_type\":\"Bearer\",\"expires_in\":3600,"
-    ++ bytes "\"scope\":\"power peak bill\"}"))
-    (holding 1599 (new ∷ slot 3 (handle 100) 0 0 11 5199 ∷ []))) refl
+    (accessAloneOf "6465666768696a6b6c6d6e6f7071727374757677" "power peak bill")
+    (holding 1599 (new ∷ ownTokenOf (handle 100) 0 1599 11 ∷ []))) refl
     -- ---- the other known names are ignored. A live code of the client, and a refresh token, each for farm 9 and the set 2: neither is spent,
     -- and neither farm nor scope is taken from it
     ∷ row
@@ -235,10 +238,8 @@ credentialsCases =
     -- the zero bytes of a free slot are no handle
     ∷ row
     (call (some []) 1599 (replicate 40 0) basic forItself
-    (said 200 0 0
-    (bytes "{\"access_token\":\"0000000000000000000000000000000000000000\",\"token_type\":\"Bearer\",\"expires_in\":3600,"
-    ++ bytes "\"scope\":\"power peak bill\"}"))
-    (at 1599 (some (slot 3 (replicate 20 0) 0 0 11 5199 ∷ [])))) refl
+    (accessAloneOf "0000000000000000000000000000000000000000" "power peak bill")
+    (at 1599 (some (ownTokenOf (replicate 20 0) 0 1599 11 ∷ [])))) refl
     -- ---- the time: T is the larger of clock and mark, expiry is T plus 3,600, and slots run out by T; a refusal stores it too
     ∷ row (call (holding 1600 []) 1100 twoHandles basic forItself (accessAlone "power peak bill") (holding 1600 (ownToken 0 1600 11 ∷ []))) refl
     ∷ row
@@ -258,19 +259,24 @@ credentialsCases =
     ∷ checked (at 1599 (heldBeside new)) 5199 (0 ∷ 0 ∷ 0 ∷ 0 ∷ 0 ∷ []) refl
     -- "no refresh token": neither it nor the last 20 random bytes are one
     ∷ row
-    (refused (at 1599 (heldBeside new)) 1599 (countUp 40 180) basic
+    (refused (at 1599 (heldBeside new)) 1599 nextHandles basic
     (bytes "grant_type=refresh_token&refresh_token=202122232425262728292a2b2c2d2e2f30313233") invalidGrant) refl
     ∷ row
-    (refused (at 1599 (heldBeside new)) 1599 (countUp 40 180) basic
+    (refused (at 1599 (heldBeside new)) 1599 nextHandles basic
     (bytes "grant_type=refresh_token&refresh_token=3435363738393a3b3c3d3e3f4041424344454647") invalidGrant) refl
     -- ---- slots for farm 0 that lie in a store already: a bound code, one that is not, a refresh token. They are good, and so are their tokens
     ∷ row
     (call (some (farmless code ∷ [])) 1599 twoHandles basic exchange (bothTokens "power peak bill")
-    (at 1599 (some (slot 3 (handle 32) 0 0 11 5199 ∷ slot 4 (handle 52) 0 0 11 2593599 ∷ [])))) refl
+    (at 1599 (some (spent (farmless code) ∷ farmless newAccess ∷ farmless newRefresh ∷ [])))) refl
     ∷ row
     (call (some (farmless unboundCode ∷ [])) 1599 twoHandles [] barn (bothTokens "power")
-    (at 1599 (some (slot 3 (handle 32) 1 0 1 5199 ∷ slot 4 (handle 52) 1 0 1 2593599 ∷ [])))) refl
+    (at 1599
+    (some
+    (spent (farmless unboundCode)
+    ∷ farmless (access unboundCode 1599 (handle 32))
+    ∷ farmless (refresh unboundCode 1599 (handle 52))
+    ∷ [])))) refl
     ∷ row
     (call (some (farmless refreshToken ∷ [])) 1599 twoHandles basic refreshing (accessAlone "power peak bill")
-    (at 1599 (some (farmless refreshToken ∷ new ∷ [])))) refl
+    (at 1599 (some (farmless refreshToken ∷ farmless (renewed refreshToken 1599 (handle 32) 11) ∷ [])))) refl
     ∷ []

@@ -16,6 +16,7 @@ pub mod TokenRows
 pub mod TokenCases
 pub mod CredentialsCases
 pub mod HeaderCases
+pub mod SpentCases
 pub mod Starred
 pub mod Visit
 pub mod Table

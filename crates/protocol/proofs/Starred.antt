@@ -35,7 +35,7 @@ use Rattle.protocol.specs.ClientForms.{isInvalidForm, lowerCase, sameAny
 use Rattle.protocol.specs.Token.{readExchange, readRefresh, readGrant, readToken, errorReply, refusalReply, tokenReply, refreshMember, challenges}
 use Rattle.protocol.specs.Granting.{refusedPlan, codePlan, exchangePlan, refreshPlan, planFor, slotsBy}
 use Rattle.protocol.specs.Outcomes.{serveAuthorization, replyText, serveToken}
-use Rattle.protocol.proofs.Cases.{authorization, token, holding, slot, Case, Decided, decided, agrees}
+use Rattle.protocol.proofs.Cases.{authorization, token, holding, slot, from, spent, Case, Decided, decided, agrees}
 unfoldable pub use Rattle.protocol.proofs.Cases.{countUp}
 
 -- ---- what the definitions say of a text
@@ -113,7 +113,10 @@ cases =
     (exchanged 1599 200 0
     (bytes "{\"access_token\":\"202122232425262728292a2b2c2d2e2f30313233\",\"token_type\":\"Bearer\",\"expires_in\":3600,"
     ++ bytes "\"refresh_token\":\"3435363738393a3b3c3d3e3f4041424344454647\",\"scope\":\"power peak bill\"}")
-    (slot 3 (countUp 20 32) 0 7 11 5199 ∷ slot 4 (countUp 20 52) 0 7 11 2593599 ∷ []))
+    (spent codeIssued
+    ∷ from (countUp 20 0) (slot 3 (countUp 20 32) 0 7 11 5199)
+    ∷ from (countUp 20 0) (slot 4 (countUp 20 52) 0 7 11 2593599)
+    ∷ []))
     ∷ decides (exchanged 1600 400 3 (bytes "{\"error\":\"invalid_grant\"}") (codeIssued ∷ []))
     ∷ says (number (readScope (bytes "bill power"))) (9 ∷ [])
     ∷ says (number (readScope (bytes "power bill power"))) (9 ∷ [])

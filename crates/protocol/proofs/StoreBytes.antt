@@ -1,5 +1,6 @@
--- The bytes of a store, by computation: "First the mark, 8 bytes, big-endian ..; then 512 slots of 35: kind, handle 20, client number 1, farm
--- 4, scope set 1, expiry 8 (farm and expiry big-endian)." The cases write a store as a record; by this they speak of the paper's bytes.
+-- The bytes of a store, by computation: "First the mark, 8 bytes, big-endian ..; then 512 slots": "kind, handle 20, client number 1, farm 4,
+-- scope set 1, expiry 8 (farm and expiry big-endian)." "Slots grow to 55 bytes, the 20 new ones last .. and the ledger to 28,168." The cases
+-- write a store as a record; by this they speak of the paper's bytes.
 -- Assumes nothing.
 use mathlib.Core.Path.{_≡_, refl}
 use mathlib.Core.List.{[], _∷_, _++_}
@@ -7,14 +8,17 @@ use lib.ListN.{replicate}
 use Rattle.octets.specs.BigEndian.{bigEndianBytes}
 use Rattle.token_store.specs.Store.{freeSlot, concat, encodeSlot, encode}
 use Rattle.token_store.specs.declared.Slot.{Slot}
-use Rattle.protocol.proofs.Cases.{holding, slot, countUp, storeOf}
+use Rattle.protocol.proofs.Cases.{holding, slot, from, spent, countUp, storeOf}
 
--- a bound code of client 3, each byte of its numbers another
-example : Slot
-example = slot 2 (countUp 20 100) 3 0x04050607 8 0x090A0B0C0D0E0F10
+-- a bound code of client 3, each byte of its numbers another; the same once it is exchanged; a refresh token that it brought
+bound : Slot
+bound = slot 2 (countUp 20 100) 3 0x04050607 8 0x090A0B0C0D0E0F10
 
--- the store with that slot first, at a time
-store-bytes : encode (storeOf (holding 0x1112131415 (example ∷ [])))
+refresh : Slot
+refresh = from (countUp 20 100) (slot 4 (countUp 20 150) 3 0x04050607 8 0x1112131415161718)
+
+-- the store with these slots first, at a time
+store-bytes : encode (storeOf (holding 0x1112131415 (bound ∷ spent bound ∷ refresh ∷ [])))
     ≡ 0 ∷ 0 ∷ 0 ∷ 0x11 ∷ 0x12 ∷ 0x13 ∷ 0x14 ∷ 0x15
     ∷ 2
     ∷ countUp 20 100
@@ -22,6 +26,21 @@ store-bytes : encode (storeOf (holding 0x1112131415 (example ∷ [])))
     ∷ 4 ∷ 5 ∷ 6 ∷ 7
     ∷ 8
     ∷ 9 ∷ 10 ∷ 11 ∷ 12 ∷ 13 ∷ 14 ∷ 15 ∷ 16
-    ∷ replicate 17885 0
-unfolding example freeSlot concat encodeSlot encode bigEndianBytes
+    ∷ replicate 20 0
+    ++ 5
+    ∷ countUp 20 100
+    ++ 3
+    ∷ 4 ∷ 5 ∷ 6 ∷ 7
+    ∷ 8
+    ∷ 9 ∷ 10 ∷ 11 ∷ 12 ∷ 13 ∷ 14 ∷ 15 ∷ 16
+    ∷ replicate 20 0
+    ++ 4
+    ∷ countUp 20 150
+    ++ 3
+    ∷ 4 ∷ 5 ∷ 6 ∷ 7
+    ∷ 8
+    ∷ 17 ∷ 18 ∷ 19 ∷ 20 ∷ 21 ∷ 22 ∷ 23 ∷ 24
+    ∷ countUp 20 100
+    ++ replicate 27995 0
+unfolding bound refresh freeSlot concat encodeSlot encode bigEndianBytes
 store-bytes = refl

@@ -1,8 +1,8 @@
 -- One table over the outcome functions, and one claim about it: from raw bytes each of its cases is decided as document 01 says, and
 -- document 02 where it amends that.
 --
--- In order: refusals 1 to 4; the authorization endpoint; the check; the token endpoint, its client_credentials grant and the halves of its
--- header last; the visit in runs of calls. That of a starred case is in `Starred`.
+-- In order: refusals 1 to 4; the authorization endpoint; the check; the token endpoint, its client_credentials grant, the halves of its
+-- header and codes that are spent last; the visit in runs of calls. That of a starred case is in `Starred`.
 -- Each row carries that it agrees, so the claim follows for the whole list.
 -- Assumes nothing.
 use mathlib.Core.List.{List, _++_}
@@ -14,12 +14,13 @@ use Rattle.protocol.proofs.CheckCases.{checked}
 use Rattle.protocol.proofs.TokenCases.{tokenCases}
 use Rattle.protocol.proofs.CredentialsCases.{credentialsCases}
 use Rattle.protocol.proofs.HeaderCases.{headerCases}
-use Rattle.protocol.proofs.Visit.{night, day, tries}
+use Rattle.protocol.proofs.SpentCases.{spentCases}
+use Rattle.protocol.proofs.Visit.{night, day, tries, leak}
 
 pub table : List Row
 table =
     buffers ++ order ++ slots ++ registries ++ manyClients ++ pages ++ errors ++ codes ++ roomAndClashes ++ times ++ held ++ checked
-    ++ tokenCases ++ credentialsCases ++ headerCases ++ night ++ day ++ tries
+    ++ tokenCases ++ credentialsCases ++ headerCases ++ spentCases ++ night ++ day ++ tries ++ leak
 
 pub table-decided : AllDecided table
 table-decided = all-decided table

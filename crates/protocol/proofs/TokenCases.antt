@@ -3,7 +3,8 @@
 -- Each case is a call from raw bytes and what the paper has for it: status, error number, challenge, the whole reply, and the
 -- store after (`Cases`). Where a test is about one clause, everything else about the call is right, so that a definition without
 -- the clause grants it; where two reasons apply, the case that comes next has the first of them mended. The cases of the
--- client_credentials grant are in `CredentialsCases`, those of a header's two halves in `HeaderCases`.
+-- client_credentials grant are in `CredentialsCases`, those of a header's two halves in `HeaderCases`, and those of codes that are spent in
+-- `SpentCases`.
 --
 -- In order: clients, slots and stores; answers; calls; the cases, by the paper's order of refusals; two limits that no call shows.
 -- Assumes nothing.
@@ -16,7 +17,7 @@ use lib.ListN.{length, replicate}
 use Rattle.octets.specs.Text.{bytes}
 use Rattle.octets.specs.Lists.{every, same, indexOf, splitOn, grow}
 use Rattle.octets.specs.BigEndian.{bigEndianBytes}
-use Rattle.octets.specs.Search.{count, any, indexWhere, firstOr, replaceFirst}
+use Rattle.octets.specs.Search.{count, any, indexWhere, firstOr, replaceFirst, replaceAll}
 use Rattle.encoding.specs.Hex.{hexText, hexDigit, hexValue, isHandleText, unhex, readHandle}
 use Rattle.encoding.specs.Base64.{isBase64, base64Bytes, groupBytes, soundGroup, sextet, none}
 use Rattle.form_coding.specs.Coding.{decodeAfter, firstByte, extra, isEscape, plain, wellFormed, sound}
@@ -36,7 +37,7 @@ use Rattle.protocol.specs.Token.{readExchange, readRefresh, readGrant, r
 use Rattle.protocol.specs.Granting.{refusedPlan, exchangePlan, refreshPlan, planFor, slotsBy}
 use Rattle.protocol.specs.Outcomes.{replyText, serveToken}
 use Rattle.protocol.proofs.TokenRows.{agreesOn, rowOn}
-use Rattle.protocol.proofs.Cases.{token, ShortStore, holding, slot, countUp, Case, Row}
+use Rattle.protocol.proofs.Cases.{token, ShortStore, holding, slot, from, spent, countUp, Case, Row}
 
 -- ---- clients, slots and stores
 
@@ -69,42 +70,47 @@ code = slot 2 (handle 0) 0 7 11 1600
 abbrev pub unboundCode : Slot
 unboundCode = slot 1 (handle 60) 1 4294967295 1 1600
 
-abbrev boundCode : Slot
+abbrev pub boundCode : Slot
 boundCode = slot 2 (handle 120) 1 8 1 1600
 
+-- tokens, each of an origin that is the handle of no slot
 abbrev pub refreshToken : Slot
-refreshToken = slot 4 (handle 80) 0 16909060 11 2593000
+refreshToken = from (handle 200) (slot 4 (handle 80) 0 16909060 11 2593000)
 
 -- granted more than its client's set has: what a token was granted counts
 abbrev barnRefresh : Slot
-barnRefresh = slot 4 (handle 140) 1 8 255 2593000
+barnRefresh = from (handle 220) (slot 4 (handle 140) 1 8 255 2593000)
 
 abbrev pub accessToken : Slot
-accessToken = slot 3 (handle 100) 0 7 11 4600
+accessToken = from (handle 200) (slot 3 (handle 100) 0 7 11 4600)
 
-abbrev runOut : Slot
-runOut = slot 3 (handle 160) 1 8 1 1599
+abbrev pub runOut : Slot
+runOut = from (handle 220) (slot 3 (handle 160) 1 8 1 1599)
 
 -- an access token with another expiry
 abbrev pub until : ℕ → Slot
-until expiry = slot 3 (handle 180) 1 8 1 expiry
+until expiry = from (handle 220) (slot 3 (handle 180) 1 8 1 expiry)
 
 -- slots with the handle of the visit's code: another code, a refresh and an access token
 abbrev pub twin : ℕ → ℕ → Slot
 twin client expiry = slot 1 (handle 0) client 9 2 expiry
 
 abbrev pub refreshTwin : Slot
-refreshTwin = slot 4 (handle 0) 0 9 2 2593000
+refreshTwin = from (handle 220) (slot 4 (handle 0) 0 9 2 2593000)
 
-abbrev accessTwin : Slot
-accessTwin = slot 3 (handle 0) 0 9 2 4600
+abbrev pub accessTwin : Slot
+accessTwin = from (handle 220) (slot 3 (handle 0) 0 9 2 4600)
 
--- the tokens that a call issues on a code or a refresh token
-abbrev access : Slot → ℕ → List ℕ → ℕ → Slot
-access origin t new scope = slot 3 new (origin .client) (origin .farm) scope (t + 3600)
+-- the tokens that an exchange issues on its code: "Each access and refresh token records the handle of the code it came from"
+abbrev pub access : Slot → ℕ → List ℕ → Slot
+access code t new = from (code .handle) (slot 3 new (code .client) (code .farm) (code .scope) (t + 3600))
 
-abbrev refresh : Slot → ℕ → List ℕ → Slot
-refresh origin t new = slot 4 new (origin .client) (origin .farm) (origin .scope) (t + 2592000)
+abbrev pub refresh : Slot → ℕ → List ℕ → Slot
+refresh code t new = from (code .handle) (slot 4 new (code .client) (code .farm) (code .scope) (t + 2592000))
+
+-- the access token for a scope that a refresh issues: its origin is that of the refresh token
+abbrev pub renewed : Slot → ℕ → List ℕ → ℕ → Slot
+renewed shown t new scope = from (shown .origin) (slot 3 new (shown .client) (shown .farm) scope (t + 3600))
 
 -- a store with these slots, the others free, or in use and live
 abbrev pub some : List Slot → ShortStore
@@ -117,12 +123,12 @@ crowded first = record { time = 1000; first = first; rest = accessToken }
 abbrev pub at : ℕ → ShortStore → ShortStore
 at time l = record { time = time; first = l .first; rest = l .rest }
 
--- the store of most calls, by the slots that a grant changes: 0, 1, 4 and 6
-abbrev heldWith : Slot → Slot → Slot → Slot → ShortStore
-heldWith a b c d = some (a ∷ b ∷ refreshToken ∷ accessToken ∷ c ∷ barnRefresh ∷ d ∷ [])
+-- the store of most calls, by the slots that a grant changes: 0, 1, 4, 6 and 7
+abbrev heldWith : Slot → Slot → Slot → Slot → Slot → ShortStore
+heldWith a b c d e = some (a ∷ b ∷ refreshToken ∷ accessToken ∷ c ∷ barnRefresh ∷ d ∷ e ∷ [])
 
 abbrev pub held : ShortStore
-held = heldWith code unboundCode boundCode runOut
+held = heldWith code unboundCode boundCode runOut freeSlot
 
 -- one whose last slot alone is in use, and has run out
 abbrev pub lastUsed : ShortStore
@@ -164,24 +170,34 @@ noRoom = said 503 0 0 []
 abbrev pub clash : Said
 clash = said 500 0 0 []
 
--- the replies to an exchange and to a refresh, by the scope names; the tokens are 20 to 33 and 34 to 47 hex
-abbrev pub bothTokens : String → Said
-bothTokens scope =
+-- the replies to an exchange and to a refresh, by the tokens and the scope names
+abbrev pub bothTokensOf : String → String → String → Said
+bothTokensOf access refresh scope =
     said 200 0 0
-    (bytes "{\"access_token\":\"202122232425262728292a2b2c2d2e2f30313233\",\"token_type\":\"Bearer\",\"expires_in\":3600,"
-    ++ bytes "\"refresh_token\":\"3435363738393a3b3c3d3e3f4041424344454647\",\"scope\":\"" ++ bytes scope ++ bytes "\"}")
+    (bytes "{\"access_token\":\"" ++ bytes access ++ bytes "\",\"token_type\":\"Bearer\",\"expires_in\":3600,\"refresh_token\":\"" ++ bytes refresh
+    ++ bytes "\",\"scope\":\"" ++ bytes scope ++ bytes "\"}")
+
+abbrev pub accessAloneOf : String → String → Said
+accessAloneOf access scope =
+    said 200 0 0
+    (bytes "{\"access_token\":\"" ++ bytes access ++ bytes "\",\"token_type\":\"Bearer\",\"expires_in\":3600,\"scope\":\"" ++ bytes scope
+    ++ bytes "\"}")
+
+-- those of the tokens 20 to 33 and 34 to 47 hex
+abbrev pub bothTokens : String → Said
+bothTokens scope = bothTokensOf "202122232425262728292a2b2c2d2e2f30313233" "3435363738393a3b3c3d3e3f4041424344454647" scope
 
 abbrev pub accessAlone : String → Said
-accessAlone scope =
-    said 200 0 0
-    (bytes "{\"access_token\":\"202122232425262728292a2b2c2d2e2f30313233\",\"token_type\":\"Bearer\",\"expires_in\":3600,\"scope\":\""
-    ++ bytes scope ++ bytes "\"}")
+accessAlone scope = accessAloneOf "202122232425262728292a2b2c2d2e2f30313233" scope
 
 -- ---- calls
 
--- "random 20 to 47 hex"
+-- "random 20 to 47 hex", and others, B4 to DB hex
 abbrev pub twoHandles : List ℕ
 twoHandles = countUp 40 32
+
+abbrev pub nextHandles : List ℕ
+nextHandles = countUp 40 180
 
 -- a call on a store, what it is answered, and the store after
 pub record Visit : Type 0 where
@@ -232,7 +248,7 @@ exchange =
     bytes "grant_type=authorization_code&code=000102030405060708090a0b0c0d0e0f10111213&redirect_uri=https%3A%2F%2Fclient.example.com%2Fcb"
 
 -- the same without its redirect_uri
-abbrev addressless : List ℕ
+abbrev pub addressless : List ℕ
 addressless = bytes "grant_type=authorization_code&code=000102030405060708090a0b0c0d0e0f10111213"
 
 abbrev pub barn : List ℕ
@@ -255,15 +271,15 @@ padding zeros = bytes "Basic " ++ replicate zeros 65 ++ bytes "Ojo6"
 
 -- ---- calls that are granted at 1599
 
-abbrev newAccess : Slot
-newAccess = access code 1599 (handle 32) 11
+abbrev pub newAccess : Slot
+newAccess = access code 1599 (handle 32)
 
-abbrev newRefresh : Slot
+abbrev pub newRefresh : Slot
 newRefresh = refresh code 1599 (handle 52)
 
--- the visit's exchange: its own slot is cleared, and slot 6 has run out
+-- the visit's exchange: its code is kept as spent, slot 6 has run out and slot 7 is free
 abbrev exchanged : ShortStore
-exchanged = heldWith newAccess unboundCode boundCode newRefresh
+exchanged = heldWith (spent code) unboundCode boundCode newAccess newRefresh
 
 abbrev pub exchanges : List ℕ → List ℕ → Visit
 exchanges header body = call held 1599 twoHandles header body (bothTokens "power peak bill") (at 1599 exchanged)
@@ -272,19 +288,19 @@ exchanges header body = call held 1599 twoHandles header body (bothTokens "power
 abbrev barnExchanges : List ℕ → Visit
 barnExchanges body =
     call held 1599 twoHandles [] body (bothTokens "power")
-    (at 1599 (heldWith code (access unboundCode 1599 (handle 32) 1) boundCode (refresh unboundCode 1599 (handle 52))))
+    (at 1599 (heldWith code (spent unboundCode) boundCode (access unboundCode 1599 (handle 32)) (refresh unboundCode 1599 (handle 52))))
 
 -- the store of most calls once a single token was issued, in the slot that has run out
 abbrev pub heldBeside : Slot → ShortStore
-heldBeside issued = heldWith code unboundCode boundCode issued
+heldBeside issued = heldWith code unboundCode boundCode issued freeSlot
 
 -- a refresh for a scope
 abbrev refreshes : List ℕ → String → ℕ → Visit
 refreshes body names scope =
-    call held 1599 twoHandles basic body (accessAlone names) (at 1599 (heldBeside (access refreshToken 1599 (handle 32) scope)))
+    call held 1599 twoHandles basic body (accessAlone names) (at 1599 (heldBeside (renewed refreshToken 1599 (handle 32) scope)))
 
 abbrev newToken : Slot
-newToken = access refreshToken 1599 (handle 32) 11
+newToken = renewed refreshToken 1599 (handle 32) 11
 
 -- a refresh with these last 20 random bytes
 abbrev ignoring : List ℕ → Visit
@@ -296,10 +312,10 @@ abbrev allEight : List ℕ → Visit
 allEight asked =
     call held 1599 twoHandles []
     (bytes "grant_type=refresh_token&client_id=barnapp&refresh_token=8c8d8e8f909192939495969798999a9b9c9d9e9f" ++ asked)
-    (accessAlone "power peak tariff bill milking drying pump solar") (at 1599 (heldBeside (access barnRefresh 1599 (handle 32) 255)))
+    (accessAlone "power peak tariff bill milking drying pump solar") (at 1599 (heldBeside (renewed barnRefresh 1599 (handle 32) 255)))
 
 -- in a crowded store, from slots to slots
-abbrev exchangesIn : List Slot → List Slot → Visit
+abbrev pub exchangesIn : List Slot → List Slot → Visit
 exchangesIn before after = call (crowded before) 1599 twoHandles basic exchange (bothTokens "power peak bill") (at 1599 (crowded after))
 
 abbrev refreshesIn : List Slot → List Slot → Visit
@@ -308,7 +324,7 @@ refreshesIn before after = call (crowded before) 1599 twoHandles basic refreshin
 -- ---- the table
 
 pub tokenCases : List Row
-unfolding every same indexOf splitOn grow hexText hexDigit hexValue isHandleText unhex readHandle isBase64 base64Bytes groupBytes soundGroup sextet none decodeAfter firstByte extra isEscape plain wellFormed sound isWellFormedForm pieceName pieceValue gives add valueIn formValue names bitFrom bitOf union readScope chosen spaced scopeText sampleConfidential samplePublic count any indexWhere firstOr replaceFirst freeSlot bigEndianBytes concat encodeSlot fitSlot wordText isMissing isRepeated onlyValue isOnce askedBy scopeAsked fits scopeGiven isInvalidForm lowerCase sameAnyCase credentials isBadHeader headerId headerSecret presentedId presentedSecret isUnclearId isImpostor callClient isInvalidClient formReasons readExchange readRefresh readGrant readToken errorReply refusalReply tokenReply refreshMember challenges firstOf unlessRefused refusedPlan exchangePlan refreshPlan planFor slotsBy replyText serveToken
+unfolding every same indexOf splitOn grow hexText hexDigit hexValue isHandleText unhex readHandle isBase64 base64Bytes groupBytes soundGroup sextet none decodeAfter firstByte extra isEscape plain wellFormed sound isWellFormedForm pieceName pieceValue gives add valueIn formValue names bitFrom bitOf union readScope chosen spaced scopeText sampleConfidential samplePublic count any indexWhere firstOr replaceFirst replaceAll freeSlot bigEndianBytes concat encodeSlot fitSlot wordText isMissing isRepeated onlyValue isOnce askedBy scopeAsked fits scopeGiven isInvalidForm lowerCase sameAnyCase credentials isBadHeader headerId headerSecret presentedId presentedSecret isUnclearId isImpostor callClient isInvalidClient formReasons readExchange readRefresh readGrant readToken errorReply refusalReply tokenReply refreshMember challenges firstOf unlessRefused refusedPlan exchangePlan refreshPlan planFor slotsBy replyText serveToken
 tokenCases =
     -- ---- success, status 200: an exchange of a bound code, of one that is not, and a refresh
     row (exchanges basic exchange) refl
@@ -471,7 +487,7 @@ tokenCases =
     ∷ row (refused held 2593000 twoHandles basic refreshing invalidGrant) refl
     ∷ row
     (call held 2592999 twoHandles basic refreshing (accessAlone "power peak bill")
-    (at 2592999 (heldWith (access refreshToken 2592999 (handle 32) 11) unboundCode boundCode runOut))) refl
+    (at 2592999 (heldWith (renewed refreshToken 2592999 (handle 32) 11) unboundCode boundCode runOut freeSlot))) refl
     -- another client's, with its own redirect address and with the one that the code is bound to
     ∷ row (refuses basic (bytes "grant_type=authorization_code&code=3c3d3e3f404142434445464748494a4b4c4d4e4f") invalidGrant) refl
     ∷ row (refuses [] (exchange ++ bytes "&client_id=barnapp") invalidGrant) refl
@@ -488,7 +504,8 @@ tokenCases =
     (call held 1599 twoHandles []
     (bytes "grant_type=authorization_code&client_id=barnapp&code=78797a7b7c7d7e7f808182838485868788898a8b"
     ++ bytes "&redirect_uri=https://barn.example/r?x=1")
-    (bothTokens "power") (at 1599 (heldWith code unboundCode (access boundCode 1599 (handle 32) 1) (refresh boundCode 1599 (handle 52))))) refl
+    (bothTokens "power")
+    (at 1599 (heldWith code unboundCode (spent boundCode) (access boundCode 1599 (handle 32)) (refresh boundCode 1599 (handle 52))))) refl
     -- one that is not bound: redirect_uri is ignored
     ∷ row (barnExchanges (barn ++ bytes "&redirect_uri=https%3A%2F%2Fevil.example%2F")) refl
     ∷ row (barnExchanges (barn ++ bytes "&redirect_uri=https%3A%2F%2Fbarn.example%2Fr%3Fx%3D1")) refl
@@ -501,22 +518,25 @@ tokenCases =
     -- the lowest slot of the right kind: what stands behind it does not help, and is not touched
     ∷ row
     (call (some (code ∷ twin 0 1600 ∷ [])) 1599 twoHandles basic exchange (bothTokens "power peak bill")
-    (at 1599 (some (newAccess ∷ twin 0 1600 ∷ newRefresh ∷ [])))) refl
+    (at 1599 (some (spent code ∷ twin 0 1600 ∷ newAccess ∷ newRefresh ∷ [])))) refl
     ∷ row
     (call (some (twin 0 1600 ∷ code ∷ [])) 1599 twoHandles basic addressless (bothTokens "peak")
-    (at 1599 (some (access (twin 0 1600) 1599 (handle 32) 2 ∷ code ∷ refresh (twin 0 1600) 1599 (handle 52) ∷ [])))) refl
+    (at 1599
+    (some (spent (twin 0 1600) ∷ code ∷ access (twin 0 1600) 1599 (handle 32) ∷ refresh (twin 0 1600) 1599 (handle 52) ∷ [])))) refl
     ∷ row (refused (some (twin 0 1599 ∷ code ∷ [])) 1599 twoHandles basic exchange invalidGrant) refl
     ∷ row (refused (some (twin 1 1600 ∷ code ∷ [])) 1599 twoHandles basic exchange invalidGrant) refl
     ∷ row
     (call (some (refreshTwin ∷ accessTwin ∷ code ∷ [])) 1599 twoHandles basic exchange (bothTokens "power peak bill")
-    (at 1599 (some (refreshTwin ∷ accessTwin ∷ newAccess ∷ newRefresh ∷ [])))) refl
+    (at 1599 (some (refreshTwin ∷ accessTwin ∷ spent code ∷ newAccess ∷ newRefresh ∷ [])))) refl
     ∷ row
     (call (some (accessTwin ∷ code ∷ refreshTwin ∷ [])) 1599 twoHandles basic
     (bytes "grant_type=refresh_token&refresh_token=000102030405060708090a0b0c0d0e0f10111213") (accessAlone "peak")
-    (at 1599 (some (accessTwin ∷ code ∷ refreshTwin ∷ access refreshTwin 1599 (handle 32) 2 ∷ [])))) refl
+    (at 1599 (some (accessTwin ∷ code ∷ refreshTwin ∷ renewed refreshTwin 1599 (handle 32) 2 ∷ [])))) refl
     ∷ row (refused (some (slot 4 (handle 80) 0 9 2 1599 ∷ refreshToken ∷ [])) 1599 twoHandles basic refreshing invalidGrant) refl
-    -- a code works once: in what the exchange leaves it is not found
-    ∷ row (refused (at 1599 exchanged) 1599 (countUp 40 180) basic exchange invalidGrant) refl
+    -- a code works once: in what the exchange leaves it is not found, and what came from it is withdrawn (more in `SpentCases`)
+    ∷ row
+    (call (at 1599 exchanged) 1599 nextHandles basic exchange invalidGrant
+    (at 1599 (heldWith (spent code) unboundCode boundCode freeSlot freeSlot))) refl
     -- time never goes back: run out at the time that the store has seen, whatever the clock says; and live until then
     ∷ row (call (at 1600 held) 1100 twoHandles basic exchange invalidGrant (at 1600 held)) refl
     ∷ row (call (at 1600 held) 1100 twoHandles basic [] invalidRequest (at 1600 held)) refl
@@ -558,19 +578,21 @@ tokenCases =
     -- all eight names, in the order of the table; the token's set counts, not the client's
     ∷ row (allEight []) refl
     ∷ row (allEight (bytes "&scope=solar+pump+drying+milking+bill+tariff+peak+power")) refl
-    -- ---- status 503: "fewer slots free or run out than needed"; an exchange needs two, and its own slot counts as free
-    -- an exchange: its own slot alone; one more that is free, or that has run out just then
+    -- ---- status 503: "fewer slots free or run out than needed"; an exchange needs two, and "an exchange's own slot is no longer free"
+    -- an exchange: none besides its own; one, which is free or has run out just then; one, and another that runs out a second later
     ∷ row (refused (crowded (code ∷ [])) 1599 twoHandles basic exchange noRoom) refl
-    ∷ row (refused (crowded (code ∷ until 1600 ∷ [])) 1599 twoHandles basic exchange noRoom) refl
-    ∷ row (exchangesIn (code ∷ freeSlot ∷ []) (newAccess ∷ newRefresh ∷ [])) refl
-    ∷ row (exchangesIn (code ∷ until 1599 ∷ []) (newAccess ∷ newRefresh ∷ [])) refl
-    -- two besides its own; the lowest are taken, access first, and its own stays clear where it is not one of them
-    ∷ row (exchangesIn (freeSlot ∷ accessToken ∷ code ∷ freeSlot ∷ []) (newAccess ∷ accessToken ∷ newRefresh ∷ freeSlot ∷ [])) refl
-    ∷ row (exchangesIn (freeSlot ∷ until 1599 ∷ code ∷ []) (newAccess ∷ newRefresh ∷ freeSlot ∷ [])) refl
+    ∷ row (refused (crowded (code ∷ freeSlot ∷ [])) 1599 twoHandles basic exchange noRoom) refl
+    ∷ row (refused (crowded (until 1599 ∷ code ∷ [])) 1599 twoHandles basic exchange noRoom) refl
+    ∷ row (refused (crowded (code ∷ freeSlot ∷ until 1600 ∷ [])) 1599 twoHandles basic exchange noRoom) refl
+    -- two; the lowest are taken, access first
+    ∷ row (exchangesIn (code ∷ freeSlot ∷ freeSlot ∷ []) (spent code ∷ newAccess ∷ newRefresh ∷ [])) refl
+    ∷ row (exchangesIn (code ∷ freeSlot ∷ until 1599 ∷ []) (spent code ∷ newAccess ∷ newRefresh ∷ [])) refl
+    ∷ row (exchangesIn (freeSlot ∷ accessToken ∷ code ∷ freeSlot ∷ []) (newAccess ∷ accessToken ∷ spent code ∷ newRefresh ∷ [])) refl
+    ∷ row (exchangesIn (freeSlot ∷ until 1599 ∷ code ∷ freeSlot ∷ []) (newAccess ∷ newRefresh ∷ spent code ∷ freeSlot ∷ [])) refl
     -- the last slot of all
     ∷ row
-    (call (some (code ∷ replicate 510 accessToken)) 1599 twoHandles basic exchange (bothTokens "power peak bill")
-    (record { time = 1599; first = newAccess ∷ replicate 510 accessToken; rest = newRefresh })) refl
+    (call (some (code ∷ freeSlot ∷ replicate 509 accessToken)) 1599 twoHandles basic exchange (bothTokens "power peak bill")
+    (record { time = 1599; first = spent code ∷ newAccess ∷ replicate 509 accessToken; rest = newRefresh })) refl
     -- a refresh: none, for its own slot stays; one
     ∷ row (refused (crowded (refreshToken ∷ [])) 1599 twoHandles basic refreshing noRoom) refl
     ∷ row (refused (crowded (refreshToken ∷ until 1600 ∷ [])) 1599 twoHandles basic refreshing noRoom) refl
@@ -578,7 +600,7 @@ tokenCases =
     ∷ row (refreshesIn (until 1599 ∷ refreshToken ∷ freeSlot ∷ []) (newToken ∷ refreshToken ∷ freeSlot ∷ [])) refl
     -- before 500: both apply, and the first is mended
     ∷ row (refused (crowded (code ∷ [])) 1599 (handle 100 ++ handle 52) basic exchange noRoom) refl
-    ∷ row (refused (crowded (code ∷ freeSlot ∷ [])) 1599 (handle 100 ++ handle 52) basic exchange clash) refl
+    ∷ row (refused (crowded (code ∷ freeSlot ∷ freeSlot ∷ [])) 1599 (handle 100 ++ handle 52) basic exchange clash) refl
     ∷ row (refused (crowded (refreshToken ∷ [])) 1599 (handle 100 ++ handle 52) basic refreshing noRoom) refl
     ∷ row (refused (crowded (refreshToken ∷ freeSlot ∷ [])) 1599 (handle 100 ++ handle 52) basic refreshing clash) refl
     -- ---- status 500: "a handle to be issued equals that of any slot in use, or two to be issued are equal"
@@ -604,10 +626,8 @@ tokenCases =
     -- the zero bytes of a free slot are no handle
     ∷ row
     (call (some (code ∷ [])) 1599 (replicate 20 0 ++ handle 52) basic exchange
-    (said 200 0 0
-    (bytes "{\"access_token\":\"0000000000000000000000000000000000000000\",\"token_type\":\"Bearer\",\"expires_in\":3600,"
-    ++ bytes "\"refresh_token\":\"3435363738393a3b3c3d3e3f4041424344454647\",\"scope\":\"power peak bill\"}"))
-    (at 1599 (some (access code 1599 (replicate 20 0) 11 ∷ newRefresh ∷ [])))) refl
+    (bothTokensOf "0000000000000000000000000000000000000000" "3435363738393a3b3c3d3e3f4041424344454647" "power peak bill")
+    (at 1599 (some (spent code ∷ access code 1599 (replicate 20 0) ∷ newRefresh ∷ [])))) refl
     ∷ []
 
 -- a header over 512 bytes, and one that decodes to no colon, are bad in themselves: no call shows it, since no client of a registry

@@ -3,7 +3,7 @@
 -- A call that is refused so answers its number and nothing else, writes nothing and changes nothing: `after` is the store as it was.
 -- A call that passes is answered at once with what an empty query, an empty body or no token gets, and the store has its time.
 --
--- Not here: stores of another length than 17,928 bytes (`StoreLength`).
+-- Not here: stores of another length than 28,168 bytes (`StoreLength`).
 use Prim.Native.Nat.{ℕ, zero, suc, _+_, _-_, _^_}
 use mathlib.Core.Path.{refl}
 use mathlib.Core.List.{List, [], _∷_, _++_}
@@ -28,7 +28,7 @@ use Rattle.protocol.specs.ClientForms.{isInvalidForm, formReasons}
 use Rattle.protocol.specs.Token.{readToken, errorReply, refusalReply, challenges}
 use Rattle.protocol.specs.Granting.{refusedPlan, codePlan, planFor, slotsBy, checkSlots}
 use Rattle.protocol.specs.Outcomes.{serveAuthorization, replyText, serveToken, serveCheck}
-use Rattle.protocol.proofs.Cases.{Call, authorization, token, check, ShortStore, holding, slot, countUp, Case, Row, row}
+use Rattle.protocol.proofs.Cases.{Call, authorization, token, check, ShortStore, holding, slot, from, countUp, Case, Row, row}
 
 -- ---- calls
 
@@ -122,9 +122,9 @@ buffers =
 
 -- ---- the clock, the mark, and the order of the four
 
--- a store with a slot of kind 5
+-- a store with a slot of kind 6
 abbrev badStore : ShortStore
-badStore = holding 0 (slot 5 (countUp 20 0) 0 7 11 1600 ∷ [])
+badStore = holding 0 (slot 6 (countUp 20 0) 0 7 11 1600 ∷ [])
 
 abbrev usual : Call → List ℕ → ShortStore → ℕ → ℕ → Case
 usual call registry store clock number = refused call 1024 (enough call) registry store clock number
@@ -177,24 +177,58 @@ storeFit store = usualPass noToken store 1000
 abbrev oneSlot : Slot → ShortStore
 oneSlot s = holding 0 (s ∷ [])
 
+-- origins of which one byte is not zero, the first, one within and the last
+abbrev firstByteOne : List ℕ
+firstByteOne = 1 ∷ replicate 19 0
+
+abbrev innerByteOne : List ℕ
+innerByteOne = replicate 9 0 ++ 1 ∷ replicate 10 0
+
+abbrev lastByteOne : List ℕ
+lastByteOne = replicate 19 0 ++ 1 ∷ []
+
+-- a store with a slot of a kind that has this origin
+abbrev originIs : ℕ → List ℕ → ShortStore
+originIs kind origin = oneSlot (from origin (slot kind (countUp 20 0) 0 7 11 1600))
+
 pub slots : List Row
 unfolding every same firstOr bigEndianBytes hexValue isHandleText unhex readHandle soundText soundId soundRedirect soundSecret soundField soundCommon soundPublic soundConfidential soundRecord recordSize recordsBehind soundRecords distinct fitRegistry recordOf registryOf sampleConfidential samplePublic sampleClients sampleRegistry freeSlot concat encodeSlot fitSlot firstOf checkSlots serveCheck
 slots =
-    -- kinds go up to 4
+    -- kinds go up to 5
     row (storeFit (oneSlot (slot 1 (countUp 20 0) 0 7 11 1600))) refl
     ∷ row (storeFit (oneSlot (slot 4 (countUp 20 0) 0 7 11 1600))) refl
-    ∷ row (storeUnfit (oneSlot (slot 5 (countUp 20 0) 0 7 11 1600))) refl
+    ∷ row (storeFit (oneSlot (slot 5 (countUp 20 0) 0 7 11 1600))) refl
+    ∷ row (storeUnfit (oneSlot (slot 6 (countUp 20 0) 0 7 11 1600))) refl
     ∷ row (storeUnfit (oneSlot (slot 255 (countUp 20 0) 0 7 11 1600))) refl
     -- a client number in the registry, which has two
     ∷ row (storeFit (oneSlot (slot 3 (countUp 20 0) 1 7 11 1600))) refl
     ∷ row (storeUnfit (oneSlot (slot 3 (countUp 20 0) 2 7 11 1600))) refl
     ∷ row (storeUnfit (oneSlot (slot 1 (countUp 20 0) 255 7 11 1600))) refl
+    ∷ row (storeFit (oneSlot (slot 5 (countUp 20 0) 1 7 11 1600))) refl
+    ∷ row (storeUnfit (oneSlot (slot 5 (countUp 20 0) 2 7 11 1600))) refl
     -- a scope set that is not empty
     ∷ row (storeFit (oneSlot (slot 2 (countUp 20 0) 1 7 255 1600))) refl
     ∷ row (storeUnfit (oneSlot (slot 2 (countUp 20 0) 1 7 0 1600))) refl
+    ∷ row (storeFit (oneSlot (slot 5 (countUp 20 0) 1 7 255 1600))) refl
+    ∷ row (storeUnfit (oneSlot (slot 5 (countUp 20 0) 1 7 0 1600))) refl
     -- farm, expiry and handle are free: all zero, as high as may be, one handle twice
     ∷ row (storeFit (oneSlot (slot 3 (replicate 20 0) 0 0 1 0))) refl
     ∷ row (storeFit (holding 0 (slot 3 (replicate 20 255) 0 (2 ^ 32 - 1) 1 (2 ^ 64 - 1) ∷ slot 3 (replicate 20 255) 0 0 1 0 ∷ []))) refl
+    -- the origin: "zero in codes (spent ones too; else refusal 3)"; in tokens any bytes, zeros and their own handle too
+    ∷ row (storeUnfit (originIs 1 firstByteOne)) refl
+    ∷ row (storeUnfit (originIs 1 lastByteOne)) refl
+    ∷ row (storeUnfit (originIs 2 firstByteOne)) refl
+    ∷ row (storeUnfit (originIs 2 lastByteOne)) refl
+    ∷ row (storeUnfit (originIs 5 firstByteOne)) refl
+    ∷ row (storeUnfit (originIs 5 innerByteOne)) refl
+    ∷ row (storeUnfit (originIs 5 lastByteOne)) refl
+    ∷ row (storeUnfit (originIs 5 (countUp 20 0))) refl
+    ∷ row (storeFit (originIs 3 (replicate 20 0))) refl
+    ∷ row (storeFit (originIs 3 firstByteOne)) refl
+    ∷ row (storeFit (originIs 3 (countUp 20 0))) refl
+    ∷ row (storeFit (originIs 4 lastByteOne)) refl
+    ∷ row (storeFit (originIs 4 (replicate 20 255))) refl
+    ∷ row (storeUnfit (originIs 6 (countUp 20 0))) refl
     -- kind 0: the body is all zero
     ∷ row (storeFit (oneSlot (slot 0 (replicate 20 0) 0 0 0 0))) refl
     ∷ row (storeUnfit (oneSlot (slot 0 (1 ∷ replicate 19 0) 0 0 0 0))) refl
@@ -205,10 +239,14 @@ slots =
     ∷ row (storeUnfit (oneSlot (slot 0 (replicate 20 0) 0 0 1 0))) refl
     ∷ row (storeUnfit (oneSlot (slot 0 (replicate 20 0) 0 0 0 1))) refl
     ∷ row (storeUnfit (oneSlot (slot 0 (replicate 20 0) 0 0 0 (2 ^ 56)))) refl
+    ∷ row (storeUnfit (oneSlot (from firstByteOne freeSlot))) refl
+    ∷ row (storeUnfit (oneSlot (from innerByteOne freeSlot))) refl
+    ∷ row (storeUnfit (oneSlot (from lastByteOne freeSlot))) refl
     -- one unfit slot is enough, at the last place too, run out or not
     ∷ row (storeUnfit (holding 0 (slot 3 (countUp 20 0) 0 7 11 1600 ∷ slot 3 (countUp 20 1) 0 7 0 1 ∷ []))) refl
-    ∷ row (storeUnfit (record { time = 0; first = replicate 511 freeSlot; rest = slot 5 (countUp 20 0) 0 7 11 1 })) refl
+    ∷ row (storeUnfit (record { time = 0; first = replicate 511 freeSlot; rest = slot 6 (countUp 20 0) 0 7 11 1 })) refl
     ∷ row (storeFit (record { time = 0; first = replicate 511 freeSlot; rest = slot 4 (countUp 20 0) 0 7 11 1 })) refl
+    ∷ row (storeUnfit (record { time = 0; first = replicate 511 freeSlot; rest = from lastByteOne (slot 5 (countUp 20 0) 0 7 11 1) })) refl
     ∷ []
 
 -- ---- registries

@@ -1,12 +1,13 @@
 -- Document 01's "A visit, written out" as three runs of calls, each call at the store as the one before it left it: the night after a code
--- has run out, a visit from the code to a refreshed token, and tries that must not spend the code.
+-- has run out, a visit from the code to a refreshed token, and tries that must not spend the code. A fourth is of document 02's third request:
+-- a code is shown again, and its tokens are withdrawn.
 use Prim.Native.Nat.{ℕ, _+_}
 use Prim.Native.String.{String}
 use mathlib.Core.Path.{refl}
 use mathlib.Core.List.{List, [], _∷_, _++_}
 use Rattle.octets.specs.Text.{bytes}
 use Rattle.octets.specs.Lists.{every, same, indexOf, splitOn, grow}
-use Rattle.octets.specs.Search.{count, any, indexWhere, firstOr, replaceFirst}
+use Rattle.octets.specs.Search.{count, any, indexWhere, firstOr, replaceFirst, replaceAll}
 use Rattle.octets.specs.BigEndian.{bigEndianBytes}
 use Rattle.encoding.specs.Hex.{hexText, hexDigit, hexValue, isHandleText, unhex, readHandle}
 use Rattle.encoding.specs.Base64.{isBase64, base64Bytes, groupBytes, soundGroup, sextet, none}
@@ -27,7 +28,7 @@ use Rattle.protocol.specs.ClientForms.{isInvalidForm, lowerCase, sameAny
 use Rattle.protocol.specs.Token.{readExchange, readRefresh, readGrant, readToken, errorReply, refusalReply, tokenReply, refreshMember, challenges}
 use Rattle.protocol.specs.Granting.{refusedPlan, codePlan, exchangePlan, refreshPlan, planFor, slotsBy, checkSlots}
 use Rattle.protocol.specs.Outcomes.{serveAuthorization, replyText, serveToken, serveCheck}
-use Rattle.protocol.proofs.Cases.{authorization, token, check, ShortStore, holding, slot, countUp, Case, Row, row}
+use Rattle.protocol.proofs.Cases.{authorization, token, check, ShortStore, holding, slot, from, spent, countUp, Case, Row, row}
 use Rattle.protocol.proofs.Starred.{rfcQuery}
 
 -- ---- the calls of client 0, its code being for farm 7
@@ -97,6 +98,28 @@ checked presented clock numbers before after = record {
   after = after;
 }
 
+-- barnapp's request with the code of client 0
+abbrev barnShows : String
+barnShows =
+    "client_id=barnapp&grant_type=authorization_code&code=000102030405060708090a0b0c0d0e0f10111213&redirect_uri=https://barn.example/r?x=1"
+
+-- the refresh for less
+abbrev refreshing : String
+refreshing = "grant_type=refresh_token&refresh_token=3435363738393a3b3c3d3e3f4041424344454647&scope=peak+power"
+
+abbrev refreshedAt : ℕ → ShortStore → ShortStore → Case
+refreshedAt clock before after =
+    requested basic refreshing clock 80 200 0
+    (bytes "{\"access_token\":\"505152535455565758595a5b5c5d5e5f60616263\",\"token_type\":\"Bearer\",\"expires_in\":3600,\"scope\":\"power peak\"}")
+    before after
+
+-- the access token of an exchange, and that of the refresh
+abbrev accessText : String
+accessText = "202122232425262728292a2b2c2d2e2f30313233"
+
+abbrev lesserText : String
+lesserText = "505152535455565758595a5b5c5d5e5f60616263"
+
 abbrev notLive : List ℕ
 notLive = 0 ∷ 0 ∷ 0 ∷ 0 ∷ 0 ∷ []
 
@@ -106,16 +129,38 @@ notLive = 0 ∷ 0 ∷ 0 ∷ 0 ∷ 0 ∷ []
 abbrev codeFrom : ℕ → ℕ → Slot
 codeFrom k t = slot 2 (countUp 20 k) 0 7 11 (t + 600)
 
--- the tokens for it
-abbrev access : ℕ → Slot
-access t = slot 3 (countUp 20 32) 0 7 11 (t + 3600)
+-- the tokens for it, which record its handle
+abbrev access : ℕ → ℕ → Slot
+access k t = from (countUp 20 k) (slot 3 (countUp 20 32) 0 7 11 (t + 3600))
 
-abbrev refresh : ℕ → Slot
-refresh t = slot 4 (countUp 20 52) 0 7 11 (t + 2592000)
+abbrev refresh : ℕ → ℕ → Slot
+refresh k t = from (countUp 20 k) (slot 4 (countUp 20 52) 0 7 11 (t + 2592000))
 
--- an access token with less scope, on the refresh token
+-- an access token with less scope, on the refresh token of the first code
 abbrev lesser : ℕ → Slot
-lesser t = slot 3 (countUp 20 80) 0 7 3 (t + 3600)
+lesser t = from (countUp 20 0) (slot 3 (countUp 20 80) 0 7 3 (t + 3600))
+
+-- ---- the stores of the second run: two codes, the first exchanged at 1599, and a refresh at 1700, by when both codes have run out
+
+abbrev twoCodes : ℕ → ShortStore
+twoCodes time = holding time (codeFrom 0 1000 ∷ codeFrom 100 1000 ∷ [])
+
+abbrev exchanged : ℕ → ShortStore
+exchanged time = holding time (spent (codeFrom 0 1000) ∷ codeFrom 100 1000 ∷ access 0 1599 ∷ refresh 0 1599 ∷ [])
+
+abbrev refreshed : ℕ → ShortStore
+refreshed time = holding time (lesser 1700 ∷ codeFrom 100 1000 ∷ access 0 1599 ∷ refresh 0 1599 ∷ [])
+
+-- those of the fourth: the code is exchanged at 1100, its refresh token used at 1200, and all three tokens withdrawn
+
+abbrev pair : ℕ → ShortStore
+pair time = holding time (spent (codeFrom 0 1000) ∷ access 0 1100 ∷ refresh 0 1100 ∷ [])
+
+abbrev family : ℕ → ShortStore
+family time = holding time (spent (codeFrom 0 1000) ∷ access 0 1100 ∷ refresh 0 1100 ∷ lesser 1200 ∷ [])
+
+abbrev withdrawn : ℕ → ShortStore
+withdrawn time = holding time (spent (codeFrom 0 1000) ∷ [])
 
 -- ---- the runs
 
@@ -129,7 +174,8 @@ night =
     ∷ row
     (authorized 1100 100 "6465666768696a6b6c6d6e6f7071727374757677" (holding 1600 (codeFrom 0 1000 ∷ []))
     (holding 1600 (codeFrom 100 1600 ∷ []))) refl
-    ∷ row (granted secondCode 2199 (holding 1600 (codeFrom 100 1600 ∷ [])) (holding 2199 (access 2199 ∷ refresh 2199 ∷ []))) refl
+    ∷ row (granted secondCode 2199 (holding 1600 (codeFrom 100 1600 ∷ []))
+    (holding 2199 (spent (codeFrom 100 1600) ∷ access 100 2199 ∷ refresh 100 2199 ∷ []))) refl
     -- the last once more, a second later
     ∷ row (invalidGrant basic secondCode 2200 (holding 1600 (codeFrom 100 1600 ∷ [])) (holding 2200 (codeFrom 100 1600 ∷ []))) refl
     ∷ []
@@ -138,33 +184,16 @@ night =
 pub day : List Row
 unfolding rfcQuery every same indexOf splitOn grow count any indexWhere firstOr replaceFirst bigEndianBytes hexText hexDigit hexValue isHandleText unhex readHandle isBase64 base64Bytes groupBytes soundGroup sextet none decodeAfter firstByte extra isEscape plain wellFormed sound encode encodeByte isWellFormedForm pieceName pieceValue gives add valueIn formValue isMissing isRepeated onlyValue isOnce names bitFrom bitOf union readScope chosen spaced scopeText soundText soundId soundRedirect soundSecret soundField soundCommon soundPublic soundConfidential soundRecord recordSize recordsBehind soundRecords distinct fitRegistry recordOf registryOf sampleConfidential samplePublic sampleClients sampleRegistry freeSlot concat encodeSlot fitSlot wordText firstOf askedBy scopeAsked fits scopeGiven unlessRefused isBadQuery queryClient isBadClient isBadRedirect isSoundState isBadState isInvalidRequest isOtherType isInvalidScope codeAsked pageReasons redirectReasons readAuthorization separator stateText location codeParameter errorParameter locationText isInvalidForm lowerCase sameAnyCase credentials isBadHeader headerId headerSecret presentedId presentedSecret isUnclearId isImpostor callClient isInvalidClient formReasons readExchange readRefresh readGrant readToken errorReply refusalReply tokenReply refreshMember challenges refusedPlan codePlan exchangePlan refreshPlan planFor slotsBy checkSlots serveAuthorization replyText serveToken serveCheck
 day =
-    row
-    (authorized 1000 100 "6465666768696a6b6c6d6e6f7071727374757677" (holding 1000 (codeFrom 0 1000 ∷ []))
-    (holding 1000 (codeFrom 0 1000 ∷ codeFrom 100 1000 ∷ []))) refl
-    ∷ row
-    (granted firstCode 1599 (holding 1000 (codeFrom 0 1000 ∷ codeFrom 100 1000 ∷ []))
-    (holding 1599 (access 1599 ∷ codeFrom 100 1000 ∷ refresh 1599 ∷ []))) refl
-    -- a code works once
-    ∷ row
-    (invalidGrant basic firstCode 1599 (holding 1599 (access 1599 ∷ codeFrom 100 1000 ∷ refresh 1599 ∷ []))
-    (holding 1599 (access 1599 ∷ codeFrom 100 1000 ∷ refresh 1599 ∷ []))) refl
-    ∷ row
-    (requested basic "grant_type=refresh_token&refresh_token=3435363738393a3b3c3d3e3f4041424344454647&scope=peak+power" 1700 80 200 0
-    (bytes "{\"access_token\":\"505152535455565758595a5b5c5d5e5f60616263\",\"token_type\":\"Bearer\",\"expires_in\":3600,\"scope\":\"power peak\"}")
-    (holding 1599 (access 1599 ∷ codeFrom 100 1000 ∷ refresh 1599 ∷ [])) (holding 1700 (access 1599 ∷ lesser 1700 ∷ refresh 1599 ∷ []))) refl
+    row (authorized 1000 100 "6465666768696a6b6c6d6e6f7071727374757677" (holding 1000 (codeFrom 0 1000 ∷ [])) (twoCodes 1000)) refl
+    ∷ row (granted firstCode 1599 (twoCodes 1000) (exchanged 1599)) refl
+    -- a code works once; by now it has run out, and nothing is withdrawn
+    ∷ row (invalidGrant basic firstCode 1600 (exchanged 1599) (exchanged 1600)) refl
+    ∷ row (refreshedAt 1700 (exchanged 1600) (refreshed 1700)) refl
     -- client 0, farm 7 and the set, with the seconds left; a refresh token is no access token
-    ∷ row
-    (checked "202122232425262728292a2b2c2d2e2f30313233" 1700 (1 ∷ 0 ∷ 7 ∷ 11 ∷ 3499 ∷ [])
-    (holding 1700 (access 1599 ∷ lesser 1700 ∷ refresh 1599 ∷ [])) (holding 1700 (access 1599 ∷ lesser 1700 ∷ refresh 1599 ∷ []))) refl
-    ∷ row
-    (checked "3435363738393a3b3c3d3e3f4041424344454647" 1700 notLive (holding 1700 (access 1599 ∷ lesser 1700 ∷ refresh 1599 ∷ []))
-    (holding 1700 (access 1599 ∷ lesser 1700 ∷ refresh 1599 ∷ []))) refl
-    ∷ row
-    (checked "202122232425262728292a2b2c2d2e2f30313233" 5199 notLive (holding 1700 (access 1599 ∷ lesser 1700 ∷ refresh 1599 ∷ []))
-    (holding 5199 (access 1599 ∷ lesser 1700 ∷ refresh 1599 ∷ []))) refl
-    ∷ row
-    (checked "505152535455565758595a5b5c5d5e5f60616263" 5299 (1 ∷ 0 ∷ 7 ∷ 3 ∷ 1 ∷ []) (holding 5199 (access 1599 ∷ lesser 1700 ∷ refresh 1599 ∷ []))
-    (holding 5299 (access 1599 ∷ lesser 1700 ∷ refresh 1599 ∷ []))) refl
+    ∷ row (checked accessText 1700 (1 ∷ 0 ∷ 7 ∷ 11 ∷ 3499 ∷ []) (refreshed 1700) (refreshed 1700)) refl
+    ∷ row (checked "3435363738393a3b3c3d3e3f4041424344454647" 1700 notLive (refreshed 1700) (refreshed 1700)) refl
+    ∷ row (checked accessText 5199 notLive (refreshed 1700) (refreshed 5199)) refl
+    ∷ row (checked lesserText 5299 (1 ∷ 0 ∷ 7 ∷ 3 ∷ 1 ∷ []) (refreshed 5199) (refreshed 5299)) refl
     ∷ []
 
 -- "Spending a code when the wrong client, or the right one without its redirect, tries it."
@@ -172,11 +201,28 @@ pub tries : List Row
 unfolding rfcQuery every same indexOf splitOn grow count any indexWhere firstOr replaceFirst bigEndianBytes hexText hexDigit hexValue isHandleText unhex readHandle isBase64 base64Bytes groupBytes soundGroup sextet none decodeAfter firstByte extra isEscape plain wellFormed sound encode encodeByte isWellFormedForm pieceName pieceValue gives add valueIn formValue isMissing isRepeated onlyValue isOnce names bitFrom bitOf union readScope chosen spaced scopeText soundText soundId soundRedirect soundSecret soundField soundCommon soundPublic soundConfidential soundRecord recordSize recordsBehind soundRecords distinct fitRegistry recordOf registryOf sampleConfidential samplePublic sampleClients sampleRegistry freeSlot concat encodeSlot fitSlot wordText firstOf askedBy scopeAsked fits scopeGiven unlessRefused isBadQuery queryClient isBadClient isBadRedirect isSoundState isBadState isInvalidRequest isOtherType isInvalidScope codeAsked pageReasons redirectReasons readAuthorization separator stateText location codeParameter errorParameter locationText isInvalidForm lowerCase sameAnyCase credentials isBadHeader headerId headerSecret presentedId presentedSecret isUnclearId isImpostor callClient isInvalidClient formReasons readExchange readRefresh readGrant readToken errorReply refusalReply tokenReply refreshMember challenges refusedPlan codePlan exchangePlan refreshPlan planFor slotsBy checkSlots serveAuthorization replyText serveToken serveCheck
 tries =
     row
-    (invalidGrant ""
-    "client_id=barnapp&grant_type=authorization_code&code=000102030405060708090a0b0c0d0e0f10111213&redirect_uri=https://barn.example/r?x=1"
-    1100 (holding 1000 (codeFrom 0 1000 ∷ [])) (holding 1100 (codeFrom 0 1000 ∷ []))) refl
+    (invalidGrant "" barnShows 1100 (holding 1000 (codeFrom 0 1000 ∷ [])) (holding 1100 (codeFrom 0 1000 ∷ []))) refl
     ∷ row
     (invalidGrant basic "grant_type=authorization_code&code=000102030405060708090a0b0c0d0e0f10111213" 1200
     (holding 1100 (codeFrom 0 1000 ∷ [])) (holding 1200 (codeFrom 0 1000 ∷ []))) refl
-    ∷ row (granted firstCode 1300 (holding 1200 (codeFrom 0 1000 ∷ [])) (holding 1300 (access 1300 ∷ refresh 1300 ∷ []))) refl
+    ∷ row (granted firstCode 1300 (holding 1200 (codeFrom 0 1000 ∷ []))
+    (holding 1300 (spent (codeFrom 0 1000) ∷ access 0 1300 ∷ refresh 0 1300 ∷ []))) refl
+    ∷ []
+
+-- "A code shown twice is a leak.": by another client it withdraws nothing, by its own all that came from it, the token of a refresh too
+pub leak : List Row
+unfolding rfcQuery every same indexOf splitOn grow count any indexWhere firstOr replaceFirst replaceAll bigEndianBytes hexText hexDigit hexValue isHandleText unhex readHandle isBase64 base64Bytes groupBytes soundGroup sextet none decodeAfter firstByte extra isEscape plain wellFormed sound encode encodeByte isWellFormedForm pieceName pieceValue gives add valueIn formValue isMissing isRepeated onlyValue isOnce names bitFrom bitOf union readScope chosen spaced scopeText soundText soundId soundRedirect soundSecret soundField soundCommon soundPublic soundConfidential soundRecord recordSize recordsBehind soundRecords distinct fitRegistry recordOf registryOf sampleConfidential samplePublic sampleClients sampleRegistry freeSlot concat encodeSlot fitSlot wordText firstOf askedBy scopeAsked fits scopeGiven unlessRefused isBadQuery queryClient isBadClient isBadRedirect isSoundState isBadState isInvalidRequest isOtherType isInvalidScope codeAsked pageReasons redirectReasons readAuthorization separator stateText location codeParameter errorParameter locationText isInvalidForm lowerCase sameAnyCase credentials isBadHeader headerId headerSecret presentedId presentedSecret isUnclearId isImpostor callClient isInvalidClient formReasons readExchange readRefresh readGrant readToken errorReply refusalReply tokenReply refreshMember challenges refusedPlan codePlan exchangePlan refreshPlan planFor slotsBy checkSlots serveAuthorization replyText serveToken serveCheck
+leak =
+    row (granted firstCode 1100 (holding 1000 (codeFrom 0 1000 ∷ [])) (pair 1100)) refl
+    ∷ row (refreshedAt 1200 (pair 1100) (family 1200)) refl
+    ∷ row (invalidGrant "" barnShows 1300 (family 1200) (family 1300)) refl
+    ∷ row (checked accessText 1300 (1 ∷ 0 ∷ 7 ∷ 11 ∷ 3400 ∷ []) (family 1300) (family 1300)) refl
+    ∷ row (checked lesserText 1300 (1 ∷ 0 ∷ 7 ∷ 3 ∷ 3500 ∷ []) (family 1300) (family 1300)) refl
+    ∷ row (invalidGrant basic firstCode 1400 (family 1300) (withdrawn 1400)) refl
+    ∷ row (checked accessText 1400 notLive (withdrawn 1400) (withdrawn 1400)) refl
+    ∷ row (checked lesserText 1400 notLive (withdrawn 1400) (withdrawn 1400)) refl
+    ∷ row (invalidGrant basic refreshing 1400 (withdrawn 1400) (withdrawn 1400)) refl
+    -- shown a third time; once it has run out its slot is used again
+    ∷ row (invalidGrant basic firstCode 1599 (withdrawn 1400) (withdrawn 1599)) refl
+    ∷ row (authorized 1600 100 "6465666768696a6b6c6d6e6f7071727374757677" (withdrawn 1599) (holding 1600 (codeFrom 100 1600 ∷ []))) refl
     ∷ []

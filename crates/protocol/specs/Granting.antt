@@ -10,10 +10,10 @@ use Rattle.octets.specs.Lists.{same}
 use Rattle.encoding.specs.declared.HandleText.{HandleText}
 use Rattle.token_store.specs.Layout.{handleSize}
 use Rattle.octets.specs.Search.{count, any, firstOr, replaceFirst}
-use Rattle.token_store.specs.Store.{kindCode, kindBoundCode, kindAccess, kindRefresh, isBoundCode, isLive, isVacant, holds, soughtKey, freeSlot, lifetimeOf, issue}
+use Rattle.token_store.specs.Store.{kindCode, kindBoundCode, kindAccess, kindRefresh, isBoundCode, isLive, isVacant, holds, soughtKey, noOrigin, freeSlot, spentCode, withoutTokens, lifetimeOf, issue}
 use Rattle.token_store.specs.declared.Slot.{Slot}
 use Rattle.token_store.specs.declared.Sought.{Sought}
-use Rattle.token_store.specs.declared.Sought.the-variants.{Code as soughtCode, Access as soughtAccess, Refresh as soughtRefresh}
+use Rattle.token_store.specs.declared.Sought.the-variants.{Code as soughtCode, Spent as soughtSpent, Access as soughtAccess, Refresh as soughtRefresh}
 use Rattle.protocol.specs.declared.ErrorWord.the-variants.{InvalidGrant, InvalidScope, TemporarilyUnavailable, ServerError}
 use Rattle.protocol.specs.declared.Refusal.{Refusal}
 use Rattle.protocol.specs.declared.Refusal.the-variants.{Redirect, Token, Failed}
@@ -47,9 +47,10 @@ secondHandle random = take handleSize (drop handleSize random)
 abbrev pub shownSlot : Sought → HandleText → List Slot → Slot
 shownSlot sought presented slots = firstOr freeSlot (soughtKey sought presented) slots
 
--- "An exchange clears its code's slot (35 zero bytes)"
-abbrev pub withoutCode : HandleText → List Slot → List Slot
-withoutCode presented slots = replaceFirst (soughtKey soughtCode presented) freeSlot slots
+-- "Keep an exchanged code as kind 5, spent, until its old expiry."
+abbrev pub withSpent : HandleText → List Slot → List Slot
+withSpent presented slots =
+    replaceFirst (soughtKey soughtCode presented) (spentCode (shownSlot soughtCode presented slots)) slots
 
 -- how many slots are free or have run out
 abbrev pub room : ℕ → List Slot → ℕ
@@ -67,22 +68,55 @@ anyTaken first second slots = isTaken first slots || isTaken second slots || sam
 abbrev pub isOwn : ℕ → ℕ → Slot → Bool
 isOwn t client s = isLive t s && eqb (s .client) client
 
--- "A code holds its client, the farm the owner allowed and the scope granted"; "Expiry is T plus 600 (code) .."
+-- "the same client, authenticated, presents a live spent code (sought only where no unspent code has its handle)": of the
+-- spent codes with its handle the lowest counts
+abbrev pub isShownAgain : ℕ → ℕ → HandleText → List Slot → Bool
+isShownAgain t client presented slots =
+    not (any (soughtKey soughtCode presented) slots) && isOwn t client (shownSlot soughtSpent presented slots)
+
+-- what an exchange that is refused leaves: "every token with that origin is cleared", where a code is shown again
+abbrev pub refusedSlots : ℕ → ℕ → HandleText → List Slot → List Slot
+refusedSlots t client presented slots = cond (isShownAgain t client presented slots) (withoutTokens (presented .bytes) slots) slots
+
+-- "A code holds its client, the farm the owner allowed and the scope granted"; "Expiry is T plus 600 (code) .."; the origin is
+-- "zero in codes"
 abbrev pub newCode : ℕ → List ℕ → CodeRequest → Slot
 newCode t handle r =
     let kind = cond (r .bound) kindBoundCode kindCode in
-    record { kind = kind; handle = handle; client = r .client; farm = r .farm; scope = r .scope; expiry = t + lifetimeOf kind }
+    record {
+      kind = kind;
+      handle = handle;
+      client = r .client;
+      farm = r .farm;
+      scope = r .scope;
+      expiry = t + lifetimeOf kind;
+      origin = noOrigin;
+    }
 
 -- "a token takes client and farm, and its scope unless a refresh asks for less, from the code or refresh token that it
--- is issued on"
-abbrev pub tokenOn : Slot → ℕ → ℕ → List ℕ → ℕ → Slot
-tokenOn origin t kind handle scope =
-    record { kind = kind; handle = handle; client = origin .client; farm = origin .farm; scope = scope; expiry = t + lifetimeOf kind }
+-- is issued on"; "Each access and refresh token records the handle of the code it came from"
+abbrev pub tokenOn : Slot → List ℕ → ℕ → ℕ → List ℕ → ℕ → Slot
+tokenOn shown origin t kind handle scope = record {
+  kind = kind;
+  handle = handle;
+  client = shown .client;
+  farm = shown .farm;
+  scope = scope;
+  expiry = t + lifetimeOf kind;
+  origin = origin;
+}
 
--- an access token of the client for itself. "Such tokens carry farm 0"
+-- an access token of the client for itself. "Such tokens carry farm 0"; "tokens of Wish 1 record their own" handle
 abbrev pub clientToken : ℕ → List ℕ → CredentialsRequest → Slot
-clientToken t handle r =
-    record { kind = kindAccess; handle = handle; client = r .client; farm = noFarm; scope = r .scope; expiry = t + lifetimeOf kindAccess }
+clientToken t handle r = record {
+  kind = kindAccess;
+  handle = handle;
+  client = r .client;
+  farm = noFarm;
+  scope = r .scope;
+  expiry = t + lifetimeOf kindAccess;
+  origin = handle;
+}
 
 -- ---- plans
 
@@ -133,34 +167,36 @@ module _ (t : ℕ) (slots : List Slot) (random : List ℕ) where
 
   -- "`invalid_grant` (not found, run out, other client; for kind 2, redirect_uri missing or not equal to the registered one)
   -- .. Status 503, empty: fewer slots free or run out than needed. Status 500, empty: a handle to be issued equals that of
-  -- any slot in use, or two to be issued are equal." "An exchange clears its code's slot, then issues access and refresh";
-  -- "its own slot counts as free for 503, not for 500"
+  -- any slot in use, or two to be issued are equal." An exchange keeps its code as spent, then "issues access (first 20
+  -- random bytes) and refresh (last 20)"; "an exchange's own slot is no longer free for 503". Of a code shown again "the answer is
+  -- still `invalid_grant`, redirect not looked at, and every token with that origin is cleared": it is not found among the unspent
   unfoldable pub exchangePlan : HandleText → ExchangeRequest → Plan
   exchangePlan presented r =
       let code = shownSlot soughtCode presented slots in
-      let access = tokenOn code t kindAccess (firstHandle random) (code .scope) in
-      let refresh = tokenOn code t kindRefresh (secondHandle random) (code .scope) in
+      let access = tokenOn code (code .handle) t kindAccess (firstHandle random) (code .scope) in
+      let refresh = tokenOn code (code .handle) t kindRefresh (secondHandle random) (code .scope) in
       record {
         reasons =
             when (not (isOwn t (r .client) code)) (Token InvalidGrant)
             ∷ when (isBoundCode code && not (r .again)) (Token InvalidGrant)
-            ∷ when (not (leb 2 (room t (withoutCode presented slots)))) (Failed NoRoom)
+            ∷ when (not (leb 2 (room t slots))) (Failed NoRoom)
             ∷ when (anyTaken (firstHandle random) (secondHandle random) slots) (Failed Clash)
             ∷ [];
-        granted = issue t refresh (issue t access (withoutCode presented slots));
-        denied = slots;
+        granted = issue t refresh (issue t access (withSpent presented slots));
+        denied = refusedSlots t (r .client) presented slots;
         scope = code .scope;
         bringsRefresh = true;
       }
 
   -- "`invalid_grant` (not found, run out, other client) .. `invalid_scope` (refresh: bad form, unknown name, or beyond the
-  -- granted set)". "A refresh issues one access token with the asked scope, or the granted one; the refresh token stays"
+  -- granted set)". "A refresh issues one access token with the asked scope, or the granted one; the refresh token stays". The access
+  -- token came from the code that the refresh token came from
   unfoldable pub refreshPlan : HandleText → RefreshRequest → Plan
   refreshPlan presented r =
       let token = shownSlot soughtRefresh presented slots in
       afterReasons
       (when (not (isOwn t (r .client) token)) (Token InvalidGrant) ∷ when (not (fits (r .scope) (token .scope))) (Token InvalidScope) ∷ [])
-      (accessPlan t slots (tokenOn token t kindAccess (firstHandle random) (scopeGiven (r .scope) (token .scope))))
+      (accessPlan t slots (tokenOn token (token .origin) t kindAccess (firstHandle random) (scopeGiven (r .scope) (token .scope))))
 
   -- "no refresh token, one slot"
   unfoldable pub credentialsPlan : CredentialsRequest → Plan
@@ -176,7 +212,8 @@ module _ (t : ℕ) (slots : List Slot) (random : List ℕ) where
   abbrev pub planOf : Reading → Plan
   planOf reading = planFor (reading .presented) (reading .request)
 
--- ---- what is decided, and what that leaves: "a refusal past 4 changes no ledger byte but the mark"
+-- ---- what is decided, and what that leaves: "a refusal past 4 changes no ledger byte but the mark", but for the one of a code
+-- that is shown again
 
 abbrev pub decisionOn : Plan → Decision
 decisionOn plan = firstOf (plan .reasons)

@@ -7,6 +7,7 @@
 -- Not here: one slot's bytes (`Slots`), scans of the slots (`Scans`), fitness (`Fits`).
 -- Assumes nothing.
 use mathlib.Core.Path.{_≡_, refl, sym, ap, _∙_, subst}
+use mathlib.Core.Bool.{Bool, true, false, cond}
 use mathlib.Core.Logic.{_≢_}
 use mathlib.Core.List.{List, _++_, map}
 use Prim.Native.Nat.{ℕ, _+_, _*_, _^_, _<_}
@@ -16,13 +17,16 @@ use lib.ListN.{length, take, drop, getD, replicate, length-append, length-drop, 
 use lib.Seq.{take-all, take-at, drop-append-add, length-take-le, sets}
 use Rattle.octets.specs.Lists.{part, Bytes}
 use Rattle.octets.specs.BigEndian.{bigEndian, bigEndianFrom, bigEndianBytes}
+use Rattle.octets.specs.Search.{replaceAll}
 use Rattle.octets.proofs.Lists.{take-bytes, drop-bytes, length-part}
+use Rattle.octets.proofs.Searches.{replaceAll-map}
 use Rattle.octets.proofs.Stores.{part-sets-after, part-sets-before, part-sets-same}
 use Rattle.octets.proofs.BigEndian.{be-bytes, bytes-be, length-be-bytes}
 use Rattle.token_store.specs.Layout.{timeSize, slotCount, slotSize, storeSize, slotStart}
-use Rattle.token_store.specs.Store.{Store, SlotFits, SlotsFit, concat, encodeSlot, decodeSlot, slotBytes, decode, encode, freeSlot, fresh, slotOf, withSlot, withTime}
+use Rattle.token_store.specs.Store.{Store, SlotFits, SlotsFit, concat, tabulate, encodeSlot, decodeSlot, slotBytes, decode, encode, freeSlot, fresh, slotOf, withSlot, withTime}
+use Rattle.token_store.specs.declared.Slot.{Slot}
 use Rattle.token_store.proofs.Tables.{length-tabulate, getD-tabulate, tabulate-cong, tabulate-list, tabulate-set, map-tabulate, concat-parts, part-concat, length-concat, part-replicate}
-use Rattle.token_store.proofs.Slots.{slot-back, slot-forth, read-fits, length-slot, slotIn, slot-in, free-read, free-fits}
+use Rattle.token_store.proofs.Slots.{slot-back, slot-forth, read-fits, length-slot, slotIn, slot-in, free-read, free-bytes, free-fits}
 
 -- ---- what is read
 
@@ -118,6 +122,22 @@ module _ (b : List ℕ) (size : length b ≡ storeSize) (bytes : Bytes b) where
   unfolding encode
   encode-later t = rw encode-slots
 
+  -- with some slots freed, these are zero
+  pub encode-freed : (k : Slot → Bool)
+      → concat (map encodeSlot (replaceAll freeSlot k (decode b .slots)))
+      ≡ concat (tabulate slotCount (λ i. cond (k (decodeSlot (slotBytes b i))) (replicate slotSize 0) (slotBytes b i)))
+  unfolding decode
+  encode-freed k =
+      ap concat
+      (ap (λ (l : List Slot). map encodeSlot l)
+      (replaceAll-map freeSlot k (decode b .slots) ∙ map-tabulate (λ s. cond (k s) freeSlot s) (λ i. decodeSlot (slotBytes b i)) slotCount)
+      ∙ map-tabulate encodeSlot (λ i. let s = decodeSlot (slotBytes b i) in cond (k s) freeSlot s) slotCount
+      ∙ tabulate-cong _ _ slotCount (λ i l. by (decodeSlot (slotBytes b i)) (k (decodeSlot (slotBytes b i))) (slot-forth (slotBytes b i) (length-slot-bytes b i size l) (slot-bytes i))))
+    where
+      by : (s : Slot) {v : List ℕ} (q : Bool) → encodeSlot s ≡ v → encodeSlot (cond q freeSlot s) ≡ cond q (replicate slotSize 0) v
+      by s true e = free-bytes
+      by s false e = e
+
   pub slots-fit : SlotsFit (decode b .slots)
   slots-fit i = by (decLt i slotCount)
     where
@@ -152,7 +172,7 @@ module _ (g : Store) (sized : length (g .slots) ≡ slotCount) (early : g .time 
       length-append times (concat pieces)
       ∙ omega (arith, length-be-bytes timeSize (g .time), length-concat slotSize (encodeSlot freeSlot) pieces piece-length, piece-count)
 
-  piece-at : (i : ℕ) → i < slotCount → slotBytes (encode g) i ≡ encodeSlot (getD (g .slots) i freeSlot)
+  pub piece-at : (i : ℕ) → i < slotCount → slotBytes (encode g) i ≡ encodeSlot (getD (g .slots) i freeSlot)
   unfolding encode pieces times
   piece-at i below =
       let n : length times ≡ timeSize = length-be-bytes timeSize (g .time) in

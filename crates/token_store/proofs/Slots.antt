@@ -1,12 +1,13 @@
 -- Laws of one slot (specs/Store.antt): its bytes, its fields and its tests.
 --
 -- In order: reading what was written; where each field lies in a slot's bytes; writing what was read,
--- which fits; the stores that write a slot; the free slot; a slot that is sought is in use; lifetimes.
+-- which fits; the stores that write a slot; the free slot; a slot that is sought is in use, and of one kind; lifetimes.
 --
 -- Not here: the slots of a store (`Codec`), fitness (`Fits`).
 -- Assumes nothing.
 use mathlib.Core.Path.{_≡_, refl, sym, ap, _∙_, subst}
 use mathlib.Core.Bool.{Bool, true, false, not, _||_}
+use mathlib.Core.Logic.{_⊎_, inl, inr}
 use mathlib.Core.List.{List, [], _∷_, _++_, map, append-assoc, append-nil}
 use Prim.Native.Nat.{ℕ, suc, _+_, _^_, _≤_, _<_}
 use native.Mathlib.Nat.{add-zero}
@@ -17,17 +18,17 @@ use lib.Seq.{drop-cons, take-all, sets}
 use borrow.Author.Tests.{eqb-true, ne-eqb, leb-true}
 use Rattle.octets.specs.Lists.{part, Bytes, every, same}
 use Rattle.octets.specs.BigEndian.{bigEndian, bigEndianFrom, bigEndianBytes}
-use Rattle.octets.proofs.Booleans.{and-left, and-right}
+use Rattle.octets.proofs.Booleans.{and-left, and-right, or-cases}
 use Rattle.octets.proofs.Lists.{take-bytes, drop-bytes, length-part, part-part}
 use Rattle.octets.proofs.Searches.{every-each}
 use Rattle.octets.proofs.Stores.{sets-append}
 use Rattle.octets.proofs.BigEndian.{be-one, be-bytes, bytes-be, be-bound, be-bytes-one, length-be-bytes}
 use Rattle.encoding.specs.declared.HandleText.{HandleText}
-use Rattle.token_store.specs.Layout.{latestTime, handleSize, farmSize, expirySize, fieldSizes, slotSize, atHandle, atClient, atFarm, atScope, atExpiry}
-use Rattle.token_store.specs.Store.{SlotFits, cut, concat, fieldsOf, ofFields, encodeSlot, decodeSlot, freeSlot, kindCode, kindBoundCode, isUsed, lifetimes, lifetimeOf, isLive, isVacant, holds, isSought, soughtKey, shows}
+use Rattle.token_store.specs.Layout.{latestTime, handleSize, farmSize, expirySize, fieldSizes, slotSize, atHandle, atClient, atFarm, atScope, atExpiry, atOrigin}
+use Rattle.token_store.specs.Store.{SlotFits, cut, concat, fieldsOf, ofFields, encodeSlot, decodeSlot, freeSlot, kindCode, kindBoundCode, isUsed, lifetimes, lifetimeOf, isLive, holds, isSought, soughtKey, shows}
 use Rattle.token_store.specs.declared.Slot.{Slot}
 use Rattle.token_store.specs.declared.Sought.{Sought}
-use Rattle.token_store.specs.declared.Sought.the-variants.{Code, Access, Refresh}
+use Rattle.token_store.specs.declared.Sought.the-variants.{Code, Spent, Access, Refresh}
 use Rattle.token_store.proofs.Tables.{cut-from, cut-concat, concat-cut}
 
 -- ---- reading what was written
@@ -35,7 +36,7 @@ use Rattle.token_store.proofs.Tables.{cut-from, cut-concat, concat-cut}
 pub slot-back : (s : Slot) → SlotFits s → decodeSlot (encodeSlot s) ≡ s
 unfolding decodeSlot encodeSlot
 slot-back s h =
-    let w : map length (fieldsOf s) ≡ fieldSizes = simp (length-be-bytes, h .handle) in
+    let w : map length (fieldsOf s) ≡ fieldSizes = simp (length-be-bytes, h .handle, h .origin) in
     let e : cut fieldSizes (concat (fieldsOf s)) ≡ fieldsOf s =
     subst (λ (ws : List ℕ). cut ws (concat (fieldsOf s)) ≡ fieldsOf s) w (cut-concat (fieldsOf s))
     in
@@ -47,11 +48,12 @@ slot-back s h =
       farm = be-bytes farmSize (s .farm) (h .farm) j;
       scope = be-bytes 1 (s .scope) (h .scope) j;
       expiry = be-bytes expirySize (s .expiry) (h .expiry) j;
+      origin = s .origin;
     }
 
 pub length-slot : (s : Slot) → SlotFits s → length (encodeSlot s) ≡ slotSize
 unfolding encodeSlot concat
-length-slot s h = simp (length-append, length-be-bytes, h .handle) (omega arith)
+length-slot s h = simp (length-append, length-be-bytes, h .handle, h .origin) (omega arith)
 
 -- ---- where the fields lie
 
@@ -64,6 +66,7 @@ fieldsIn l =
     ∷ part l atFarm farmSize
     ∷ part l atScope 1
     ∷ part l atExpiry expirySize
+    ∷ part l atOrigin handleSize
     ∷ []
 
 cut-fields : (l : List ℕ) → cut fieldSizes l ≡ fieldsIn l
@@ -85,6 +88,7 @@ slotIn b at = record {
   farm = bigEndian (part b (at + atFarm) farmSize);
   scope = getD b (at + atScope) 0;
   expiry = bigEndian (part b (at + atExpiry) expirySize);
+  origin = part b (at + atOrigin) handleSize;
 }
 
 pub slot-in : (b : List ℕ) (at : ℕ) → at + slotSize ≤ length b → decodeSlot (part b at slotSize) ≡ slotIn b at
@@ -97,6 +101,7 @@ slot-in b at fits =
       farm = bigEndian (field atFarm farmSize (omega arith) j);
       scope = byte atScope (omega arith) j;
       expiry = bigEndian (field atExpiry expirySize (omega arith) j);
+      origin = field atOrigin handleSize (omega arith) j;
     }
   where
     field : (k n : ℕ) → k + n ≤ slotSize → part (part b at slotSize) k n ≡ part b (at + k) n
@@ -131,6 +136,7 @@ module _ (l : List ℕ) (size : length l ≡ slotSize) (bytes : Bytes l) where
       ∷ field-forth atFarm farmSize (omega arith) j
       ∷ field-forth atScope 1 (omega arith) j
       ∷ field-forth atExpiry expirySize (omega arith) j
+      ∷ part l atOrigin handleSize
       ∷ []
       in
       ap (λ (s : Slot). concat (fieldsOf s)) (slot-fields l) ∙ ap concat (e ∙ sym (cut-fields l))
@@ -150,6 +156,7 @@ module _ (l : List ℕ) (size : length l ≡ slotSize) (bytes : Bytes l) where
         farm = field-bound atFarm farmSize (omega arith);
         scope = field-bound atScope 1 (omega arith);
         expiry = field-bound atExpiry expirySize (omega arith);
+        origin = field-length atOrigin handleSize (omega arith);
       })
 
 -- ---- the stores that write a slot are one store of the whole slot
@@ -157,34 +164,38 @@ module _ (l : List ℕ) (size : length l ≡ slotSize) (bytes : Bytes l) where
 glue : (l : List ℕ) (i j : ℕ) (u v : List ℕ) → j ≡ i + length u → sets (sets l i u) j v ≡ sets l i (u ++ v)
 glue l i j u v e = rw e (sets-append l i u v)
 
--- u₁ to u₄ are what is stored up to the next number: kind and handle, the client, the farm, the scope
-module _ (b : List ℕ) (at : ℕ) (s : Slot) (fits : SlotFits s) (l₁ l₂ l₃ : List ℕ) where
+-- u₁ to u₅ are what is stored up to the next number: kind and handle, the client, the farm, the scope, the expiry
+module _ (b : List ℕ) (at : ℕ) (s : Slot) (fits : SlotFits s) (l₁ l₂ l₃ l₄ : List ℕ) where
   pub store-slot :
       l₁ ≡ sets (set b at (s .kind)) (at + atHandle) (s .handle)
       → l₂ ≡ sets (set l₁ (at + atClient) (s .client)) (at + atFarm) (bigEndianBytes farmSize (s .farm))
       → l₃ ≡ sets (set l₂ (at + atScope) (s .scope)) (at + atExpiry) (bigEndianBytes expirySize (s .expiry))
-      → l₃ ≡ sets b at (encodeSlot s)
+      → l₄ ≡ sets l₃ (at + atOrigin) (s .origin)
+      → l₄ ≡ sets b at (encodeSlot s)
   unfolding encodeSlot concat
-  store-slot e₁ e₂ e₃ =
+  store-slot e₁ e₂ e₃ e₄ =
       let f : List ℕ = bigEndianBytes farmSize (s .farm) in
       let x : List ℕ = bigEndianBytes expirySize (s .expiry) in
       let u₁ : List ℕ = s .kind ∷ s .handle in
       let u₂ : List ℕ = u₁ ++ (s .client ∷ []) in
       let u₃ : List ℕ = u₂ ++ f in
       let u₄ : List ℕ = u₃ ++ (s .scope ∷ []) in
+      let u₅ : List ℕ = u₄ ++ x in
       let h : length (s .handle) ≡ handleSize = fits .handle in
       let n₁ : length u₁ ≡ atClient = omega arith in
       let n₂ : length u₂ ≡ atFarm = length-append u₁ (s .client ∷ []) ∙ omega arith in
       let n₃ : length u₃ ≡ atScope = length-append u₂ f ∙ omega (arith, length-be-bytes farmSize (s .farm)) in
       let n₄ : length u₄ ≡ atExpiry = length-append u₃ (s .scope ∷ []) ∙ omega arith in
+      let n₅ : length u₅ ≡ atOrigin = length-append u₄ x ∙ omega (arith, length-be-bytes expirySize (s .expiry)) in
       let p₁ : l₁ ≡ sets b at u₁ = e₁ ∙ glue b at (at + atHandle) (s .kind ∷ []) (s .handle) refl in
       let p₂ : l₂ ≡ sets b at u₃ =
       e₂ ∙ rw (p₁, glue b at (at + atClient) u₁ (s .client ∷ []) (omega arith)) (glue b at (at + atFarm) u₂ f (omega arith))
       in
-      let p₃ : l₃ ≡ sets b at (u₄ ++ x) =
+      let p₃ : l₃ ≡ sets b at u₅ =
       e₃ ∙ rw (p₂, glue b at (at + atScope) u₃ (s .scope ∷ []) (omega arith)) (glue b at (at + atExpiry) u₄ x (omega arith))
       in
-      p₃
+      let p₄ : l₄ ≡ sets b at (u₅ ++ s .origin) = e₄ ∙ rw p₃ (glue b at (at + atOrigin) u₅ (s .origin) (omega arith)) in
+      p₄
       ∙ rw (be-bytes-one (s .kind) (fits .kind), be-bytes-one (s .client) (fits .client), be-bytes-one (s .scope) (fits .scope))
       (simp (append-assoc, append-nil))
 
@@ -200,7 +211,15 @@ free-bytes = refl
 
 pub free-fits : SlotFits freeSlot
 unfolding freeSlot
-free-fits = record { kind = lit< tt; handle = refl; client = lit< tt; farm = lit< tt; scope = lit< tt; expiry = lit< tt }
+free-fits = record {
+  kind = lit< tt;
+  handle = refl;
+  client = lit< tt;
+  farm = lit< tt;
+  scope = lit< tt;
+  expiry = lit< tt;
+  origin = refl;
+}
 
 pub free-unused : isUsed freeSlot ≡ false
 unfolding freeSlot
@@ -209,10 +228,6 @@ free-unused = refl
 pub free-dead : (t : ℕ) → isLive t freeSlot ≡ false
 unfolding freeSlot
 free-dead t = refl
-
-pub free-vacant : (t : ℕ) → isVacant t freeSlot ≡ true
-unfolding freeSlot
-free-vacant t = refl
 
 -- ---- a slot that is sought is in use
 
@@ -225,8 +240,17 @@ sought-used Code s e = by (eqb (s .kind) kindCode) refl e
     by : (t : Bool) → eqb (s .kind) kindCode ≡ t → (t || eqb (s .kind) kindBoundCode) ≡ true → isUsed s ≡ true
     by true q f = used (s .kind) 0 q
     by false q f = used (s .kind) 1 f
+sought-used Spent s e = used (s .kind) 4 e
 sought-used Access s e = used (s .kind) 2 e
 sought-used Refresh s e = used (s .kind) 3 e
+
+-- a code's kind fails a test that both its kinds fail
+pub code-fails : (f : ℕ → Bool) → f kindCode ≡ false → f kindBoundCode ≡ false → (s : Slot) → isSought Code s ≡ true → f (s .kind) ≡ false
+code-fails f a b s e = by (or-cases (eqb (s .kind) kindCode) (eqb (s .kind) kindBoundCode) e)
+  where
+    by : (eqb (s .kind) kindCode ≡ true) ⊎ (eqb (s .kind) kindBoundCode ≡ true) → f (s .kind) ≡ false
+    by (inl q) = rw (eqb-true (s .kind) kindCode q) a
+    by (inr q) = rw (eqb-true (s .kind) kindBoundCode q) b
 
 -- a slot that a look-up takes is in use and has the handle presented
 pub key-holds : (q : Sought) (p : HandleText) (s : Slot) → soughtKey q p s ≡ true → holds (p .bytes) s ≡ true

@@ -1,7 +1,8 @@
 -- Where everything lies in a store. No other file of specs/ or proofs/ names one of these numbers.
 --
--- "Ledger: 17,928 bytes. First the mark, 8 bytes, big-endian, at most 2^40; then 512 slots of 35: kind, handle 20,
--- client number 1, farm 4, scope set 1, expiry 8 (farm and expiry big-endian)."
+-- "First the mark, 8 bytes, big-endian, at most 2^40; then 512 slots": "kind, handle 20, client number 1, farm 4, scope
+-- set 1, expiry 8 (farm and expiry big-endian)". "Slots grow to 55 bytes, the 20 new ones last", which are a token's
+-- origin, "and the ledger to 28,168."
 use Prim.Native.Nat.{ℕ, _+_, _*_, _^_}
 use mathlib.Core.List.{List, [], _∷_}
 
@@ -26,9 +27,9 @@ farmSize = 4
 abbrev pub expirySize : ℕ
 expirySize = 8
 
--- kind, handle, client, farm, scope, expiry
+-- kind, handle, client, farm, scope, expiry, origin
 abbrev pub fieldSizes : List ℕ
-fieldSizes = 1 ∷ handleSize ∷ 1 ∷ farmSize ∷ 1 ∷ expirySize ∷ []
+fieldSizes = 1 ∷ handleSize ∷ 1 ∷ farmSize ∷ 1 ∷ expirySize ∷ handleSize ∷ []
 
 -- where each field starts in a slot; the kind stands first
 abbrev pub atHandle : ℕ
@@ -46,8 +47,11 @@ atScope = atFarm + farmSize
 abbrev pub atExpiry : ℕ
 atExpiry = atScope + 1
 
+abbrev pub atOrigin : ℕ
+atOrigin = atExpiry + expirySize
+
 abbrev pub slotSize : ℕ
-slotSize = atExpiry + expirySize
+slotSize = atOrigin + handleSize
 
 abbrev pub storeSize : ℕ
 storeSize = timeSize + slotCount * slotSize

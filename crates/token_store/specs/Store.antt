@@ -10,20 +10,21 @@ use Rattle.octets.specs.Lists.{part, same}
 use Rattle.octets.specs.BigEndian.{bigEndian, bigEndianBytes}
 use Rattle.encoding.specs.declared.HandleText.{HandleText}
 use Rattle.token_store.specs.Layout.{timeSize, slotCount, handleSize, farmSize, expirySize, fieldSizes, slotSize, slotStart}
-use Rattle.octets.specs.Search.{replaceFirst}
+use Rattle.octets.specs.Search.{replaceFirst, replaceAll}
 use Rattle.token_store.specs.declared.Slot.{Slot}
 use Rattle.token_store.specs.declared.Found.{Found}
 use Rattle.token_store.specs.declared.Found.the-variants.{At as Found·At, Nothing}
 use Rattle.token_store.specs.declared.Vacancy.{Vacancy}
 use Rattle.token_store.specs.declared.Vacancy.the-variants.{At as Vacancy·At, Full}
 use Rattle.token_store.specs.declared.Sought.{Sought}
-use Rattle.token_store.specs.declared.Sought.the-variants.{Code, Access, Refresh}
+use Rattle.token_store.specs.declared.Sought.the-variants.{Code, Spent, Access, Refresh}
 
 pub record Store : Type 0 where
   pub time : ℕ
   pub slots : List Slot
 
 -- ---- kinds: "Kind 0 is free, body all zero; 1 code without bound redirect; 2 code with bound redirect; 3 access; 4 refresh."
+-- "Keep an exchanged code as kind 5, spent"
 
 abbrev pub kindFree : ℕ
 kindFree = 0
@@ -40,9 +41,12 @@ kindAccess = 3
 abbrev pub kindRefresh : ℕ
 kindRefresh = 4
 
+abbrev pub kindSpent : ℕ
+kindSpent = 5
+
 -- the kinds number up to the last of them
 abbrev pub kindLast : ℕ
-kindLast = kindRefresh
+kindLast = kindSpent
 
 abbrev pub isUsed : Slot → Bool
 isUsed s = not (eqb (s .kind) kindFree)
@@ -50,20 +54,53 @@ isUsed s = not (eqb (s .kind) kindFree)
 abbrev pub isBoundCode : Slot → Bool
 isBoundCode s = eqb (s .kind) kindBoundCode
 
+-- an access or a refresh token
+abbrev pub isTokenKind : ℕ → Bool
+isTokenKind kind = eqb kind kindAccess || eqb kind kindRefresh
+
+abbrev pub isToken : Slot → Bool
+isToken s = isTokenKind (s .kind)
+
 -- "for a code, 1 or 2"
 abbrev pub isSought : Sought → Slot → Bool
 isSought Code s = eqb (s .kind) kindCode || eqb (s .kind) kindBoundCode
+isSought Spent s = eqb (s .kind) kindSpent
 isSought Access s = eqb (s .kind) kindAccess
 isSought Refresh s = eqb (s .kind) kindRefresh
 
+-- what stands in the place of the origin in all but tokens: "zero in codes (spent ones too ..)"
+abbrev pub noOrigin : List ℕ
+noOrigin = replicate handleSize 0
+
 unfoldable pub freeSlot : Slot
-freeSlot = record { kind = kindFree; handle = replicate handleSize 0; client = 0; farm = 0; scope = 0; expiry = 0 }
+freeSlot = record {
+  kind = kindFree;
+  handle = replicate handleSize 0;
+  client = 0;
+  farm = 0;
+  scope = 0;
+  expiry = 0;
+  origin = noOrigin;
+}
+
+-- a code once it is exchanged: nothing but its kind changes
+abbrev pub spentCode : Slot → Slot
+spentCode s = record {
+  kind = kindSpent;
+  handle = s .handle;
+  client = s .client;
+  farm = s .farm;
+  scope = s .scope;
+  expiry = s .expiry;
+  origin = s .origin;
+}
 
 -- ---- time: "Something is live while T is below its expiry."
 
--- "Expiry is T plus 600 (code), 3,600 (access), 2,592,000 (refresh).": a row for each kind
+-- "Expiry is T plus 600 (code), 3,600 (access), 2,592,000 (refresh).": a row for each kind. A spent code is never issued: it is
+-- kept "until its old expiry"
 abbrev pub lifetimes : List ℕ
-lifetimes = 0 ∷ 600 ∷ 600 ∷ 3600 ∷ 2592000 ∷ []
+lifetimes = 0 ∷ 600 ∷ 600 ∷ 3600 ∷ 2592000 ∷ 0 ∷ []
 
 abbrev pub lifetimeOf : ℕ → ℕ
 lifetimeOf kind = getD lifetimes kind 0
@@ -87,6 +124,14 @@ shows p s = p .valid && same (p .bytes) (s .handle)
 
 abbrev pub soughtKey : Sought → HandleText → Slot → Bool
 soughtKey q p s = isSought q s && shows p s
+
+-- a token that came from the code of this handle
+abbrev pub comesFrom : List ℕ → Slot → Bool
+comesFrom handle s = isToken s && same handle (s .origin)
+
+-- "every token with that origin is cleared"
+abbrev pub withoutTokens : List ℕ → List Slot → List Slot
+withoutTokens origin slots = replaceAll freeSlot (comesFrom origin) slots
 
 -- ---- what a search of the slots gives, by the place of the first that passes
 
@@ -147,6 +192,7 @@ fieldsOf s =
     ∷ bigEndianBytes farmSize (s .farm)
     ∷ bigEndianBytes 1 (s .scope)
     ∷ bigEndianBytes expirySize (s .expiry)
+    ∷ s .origin
     ∷ []
 
 abbrev pub ofFields : List (List ℕ) → Slot
@@ -157,6 +203,7 @@ ofFields fs = record {
   farm = bigEndian (getD fs 3 []);
   scope = bigEndian (getD fs 4 []);
   expiry = bigEndian (getD fs 5 []);
+  origin = getD fs 6 [];
 }
 
 -- the fields fit their widths
@@ -167,6 +214,7 @@ pub record SlotFits (s : Slot) : Type 0 where
   pub farm : s .farm < 256 ^ farmSize
   pub scope : s .scope < 256 ^ 1
   pub expiry : s .expiry < 256 ^ expirySize
+  pub origin : length (s .origin) ≡ handleSize
 
 -- so do those of every slot; past the list's end the slot is free
 abbrev pub SlotsFit : List Slot → Type 0

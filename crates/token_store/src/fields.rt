@@ -6,7 +6,7 @@ ghost use Prim.Native.Nat.{_+_, _<_, _≤_};
 ghost use lib.ListN.{length};
 ghost use Rattle.octets.specs.Lists.{part, same};
 ghost use Rattle.token_store.specs.Layout.{storeSize, slotCount, handleSize, slotStart};
-ghost use Rattle.token_store.specs.Store.{decode, slotOf, isLive};
+ghost use Rattle.token_store.specs.Store.{decode, slotOf, isTokenKind, isLive, comesFrom};
 
 // Where slot i starts.
 pub(crate) fn slot_start(i: usize) -> usize
@@ -42,6 +42,26 @@ pub(crate) fn has_handle(store: &[u8], i: usize, handle: &[u8]) -> bool
     octets::equal(handle, &store[at..end])
 }
 
+// Whether a kind is that of an access or a refresh token.
+pub(crate) fn is_token_kind(kind: u8) -> bool
+    ensures { λ r. ⌜ r ≡ isTokenKind kind ⌝ }
+{
+    (kind == layout::KIND_ACCESS) | (kind == layout::KIND_REFRESH)
+}
+
+// Whether slot i is a token that came from the code of this handle.
+pub(crate) fn comes_from(store: &[u8], i: usize, handle: &[u8]) -> bool
+    requires { ⌜ (length (now store) ≡ storeSize) × (i < slotCount) ⌝ }
+    ensures { λ r. ⌜ r ≡ comesFrom (now (handle .entry)) (slotOf (decode (now (store .entry))) i) ⌝ }
+{
+    if !is_token_kind(kind_of(store, i)) {
+        return false;
+    }
+    let at = slot_start(i) + layout::AT_ORIGIN;
+    let end = at + layout::HANDLE_SIZE;
+    octets::equal(handle, &store[at..end])
+}
+
 // Whether slot i is in use and has not run out at t.
 pub(crate) fn is_live(store: &[u8], i: usize, t: u64) -> bool
     requires { ⌜ (length (now store) ≡ storeSize) × (i < slotCount) ⌝ }
@@ -69,6 +89,7 @@ pub fn slot_at(store: &[u8], i: usize) -> Slot
 {
     let at = slot_start(i);
     let handle = handle_at(store, at + layout::AT_HANDLE);
+    let origin = handle_at(store, at + layout::AT_ORIGIN);
     Slot {
         kind: store[at],
         handle,
@@ -76,5 +97,6 @@ pub fn slot_at(store: &[u8], i: usize) -> Slot
         farm: octets::read_be32(store, at + layout::AT_FARM),
         scope: store[at + layout::AT_SCOPE],
         expiry: octets::read_be64(store, at + layout::AT_EXPIRY),
+        origin,
     }
 }

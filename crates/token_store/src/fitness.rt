@@ -1,4 +1,5 @@
 // Whether bytes are a store.
+use crate::fields::is_token_kind;
 use crate::fields::slot_start;
 use crate::layout;
 use crate::time::time_of;
@@ -8,7 +9,8 @@ ghost use Rattle.token_store.specs.Layout.{slotSize};
 ghost use Rattle.token_store.specs.Store.{decodeSlot};
 ghost use Rattle.token_store.specs.Fit.{fitSlot, fitStore};
 
-// Whether the bytes of a slot are those of a free one, all zero, or of one in use for one of so many clients.
+// Whether the bytes of a slot are those of a free one, all zero, or of one in use for one of so many clients: of a token,
+// or of a code, which has no origin.
 fn fit_slot(slot: &[u8], clients: u8) -> bool
     requires { ⌜ length (now slot) ≡ slotSize ⌝ }
     ensures { λ r. ⌜ r ≡ fitSlot clients (decodeSlot (now (slot .entry))) ⌝ }
@@ -17,9 +19,13 @@ fn fit_slot(slot: &[u8], clients: u8) -> bool
     if kind == layout::KIND_FREE {
         return octets::all_zero(slot);
     }
-    (kind <= layout::KIND_LAST)
+    let fit = (kind <= layout::KIND_LAST)
         & (slot[layout::AT_CLIENT] < clients)
-        & (slot[layout::AT_SCOPE] != 0)
+        & (slot[layout::AT_SCOPE] != 0);
+    if is_token_kind(kind) {
+        return fit;
+    }
+    fit & octets::all_zero(&slot[layout::AT_ORIGIN..layout::SLOT_SIZE])
 }
 
 // Whether the bytes are a store for so many clients. Nothing is asked of them.

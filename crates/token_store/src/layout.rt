@@ -3,9 +3,9 @@ pub const TIME_SIZE: usize = 8;
 
 pub const SLOT_COUNT: usize = 512;
 
-pub const SLOT_SIZE: usize = 35;
+pub const SLOT_SIZE: usize = 55;
 
-pub const STORE_SIZE: usize = 17928;
+pub const STORE_SIZE: usize = 28168;
 
 // Where each field starts in a slot, behind the kind, and the widths of those that are wider than a byte.
 pub const AT_HANDLE: usize = 1;
@@ -17,6 +17,8 @@ pub const AT_FARM: usize = 22;
 pub const AT_SCOPE: usize = 26;
 
 pub const AT_EXPIRY: usize = 27;
+
+pub const AT_ORIGIN: usize = 35;
 
 pub const HANDLE_SIZE: usize = encoding::HANDLE_SIZE;
 
@@ -38,8 +40,10 @@ pub const KIND_ACCESS: u8 = 3;
 
 pub const KIND_REFRESH: u8 = 4;
 
-// The kinds number up to the last of them.
-pub const KIND_LAST: u8 = KIND_REFRESH;
+pub const KIND_SPENT: u8 = 5;
 
-// How many seconds what is issued lives: a row for each kind.
-pub const LIFETIMES: [u64; 5] = [0, 600, 600, 3600, 2592000];
+// The kinds number up to the last of them.
+pub const KIND_LAST: u8 = KIND_SPENT;
+
+// How many seconds what is issued lives: a row for each kind. A spent code keeps its expiry.
+pub const LIFETIMES: [u64; 6] = [0, 600, 600, 3600, 2592000, 0];

@@ -21,8 +21,9 @@ pub use search::has_room;
 pub use time::call_time;
 pub use time::lifetime;
 pub use time::set_time;
-pub use write::clear;
+pub use write::clear_tokens;
 pub use write::issue;
+pub use write::put;
 
 // What a slot of the store holds.
 pub struct Slot {
@@ -32,6 +33,8 @@ pub struct Slot {
     pub farm: u32,
     pub scope: u8,
     pub expiry: u64,
+    // of a token: the handle of the code that it came from
+    pub origin: [u8; layout::HANDLE_SIZE],
 }
 
 impl Slot {
@@ -43,9 +46,10 @@ impl Slot {
     }
 }
 
-// What a look-up is for: a code of either kind, an access token or a refresh token.
+// What a look-up is for: a code of either kind, a code that was exchanged, an access token or a refresh token.
 pub enum Sought {
     Code,
+    Spent,
     Access,
     Refresh,
 }

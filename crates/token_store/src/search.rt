@@ -23,6 +23,7 @@ fn is_sought(store: &[u8], i: usize, sought: Sought) -> bool
     let kind = kind_of(store, i);
     match sought {
         Sought::Code => (kind == layout::KIND_CODE) | (kind == layout::KIND_BOUND_CODE),
+        Sought::Spent => kind == layout::KIND_SPENT,
         Sought::Access => kind == layout::KIND_ACCESS,
         Sought::Refresh => kind == layout::KIND_REFRESH,
     }

@@ -1,6 +1,7 @@
-// Writing, issuing and freeing a slot.
+// Writing and issuing a slot, and freeing the tokens that came from a code.
 use crate::Slot;
 use crate::Vacancy;
+use crate::fields::comes_from;
 use crate::fields::slot_start;
 use crate::layout;
 use crate::search::vacant;
@@ -8,7 +9,7 @@ ghost use mathlib.Core.Path.{_≡_};
 ghost use Prim.Native.Nat.{_<_};
 ghost use lib.ListN.{length};
 ghost use Rattle.token_store.specs.Layout.{storeSize, slotCount};
-ghost use Rattle.token_store.specs.Store.{SlotFits, decode, encodeSlot, withSlot, withSlots, issue, freeSlot};
+ghost use Rattle.token_store.specs.Store.{SlotFits, decode, encodeSlot, withSlot, withSlots, issue, freeSlot, withoutTokens};
 
 // The bytes of a slot, whose fields have the widths of their types.
 fn slot_bytes(s: Slot) -> [u8; layout::SLOT_SIZE]
@@ -22,11 +23,13 @@ fn slot_bytes(s: Slot) -> [u8; layout::SLOT_SIZE]
     octets::write_be(&mut b, layout::AT_FARM, layout::FARM_SIZE, s.farm as u64);
     b[layout::AT_SCOPE] = s.scope;
     octets::write_be(&mut b, layout::AT_EXPIRY, layout::EXPIRY_SIZE, s.expiry);
+    let origin = s.origin;
+    octets::copy_at(&mut b, layout::AT_ORIGIN, &origin);
     b
 }
 
 // Writes slot i; nothing else changes.
-fn put(store: &mut [u8], i: usize, s: Slot)
+pub fn put(store: &mut [u8], i: usize, s: Slot)
     requires { ⌜ (length (now store) ≡ storeSize) × (i < slotCount) ⌝ }
     ensures { λ _. ⌜ decode (now (store .exit)) ≡ withSlot (decode (now (store .entry))) i s ⌝ }
 {
@@ -46,9 +49,23 @@ pub fn issue(store: &mut [u8], t: u64, s: Slot)
 }
 
 // Frees slot i: all its bytes are zero.
-pub fn clear(store: &mut [u8], i: usize)
+fn clear(store: &mut [u8], i: usize)
     requires { ⌜ (length (now store) ≡ storeSize) × (i < slotCount) ⌝ }
     ensures { λ _. ⌜ decode (now (store .exit)) ≡ withSlot (decode (now (store .entry))) i freeSlot ⌝ }
 {
     octets::clear_at(store, slot_start(i), layout::SLOT_SIZE);
+}
+
+// Frees every token that came from the code of this handle; nothing else changes.
+pub fn clear_tokens(store: &mut [u8], handle: &[u8])
+    requires { ⌜ length (now store) ≡ storeSize ⌝ }
+    ensures { λ _.
+        let before = decode (now (store .entry)) in
+        ⌜ decode (now (store .exit)) ≡ withSlots before (withoutTokens (now (handle .entry)) (before .slots)) ⌝ }
+{
+    for i in 0..layout::SLOT_COUNT {
+        if comes_from(store, i, handle) {
+            clear(store, i);
+        }
+    }
 }

@@ -13,9 +13,9 @@ const ROUNDS: usize = 101;
 /// Calls in a row; their time is taken together.
 const BATCH: usize = 40;
 
-/// Where the code and the refresh token stand, and the slot that has run out and is taken.
-const PRESENTED: usize = sample::SLOTS - 2;
-const VACANT: usize = sample::SLOTS - 1;
+/// Where the code and the refresh token stand, and the slots behind it, which have run out and are taken.
+const PRESENTED: usize = sample::SLOTS - 3;
+const BEHIND: [usize; 2] = [sample::SLOTS - 2, sample::SLOTS - 1];
 
 /// A call that is made again and again.
 struct Case {
@@ -30,6 +30,8 @@ enum Request {
     Check(String),
     Authorize(String),
     Token(Vec<u8>, String),
+    /// The exchange of a code that is spent.
+    SecondShowing(Vec<u8>, String),
 }
 
 impl Case {
@@ -48,6 +50,10 @@ impl Case {
             }
             Request::Token(header, body) => {
                 (program.token)(header, body.as_bytes(), registry, store, NOW, &RANDOM, output).status == 200
+            }
+            Request::SecondShowing(header, body) => {
+                let reply = (program.token)(header, body.as_bytes(), registry, store, NOW, &RANDOM, output);
+                reply.status == 400 && store[sample::slot_range(BEHIND[1]).start] == sample::FREE
             }
         }
     }
@@ -136,11 +142,15 @@ fn store(live: usize, clients: usize) -> Vec<u8> {
     let mut store = sample::empty_store();
     sample::set_latest(&mut store, NOW);
     for number in 0..live {
-        let client = (number % clients) as u8;
-        let slot = Slot { kind: sample::ACCESS, handle: handle(number), client, farm: 7, scope: 9, expiry: NOW + 1 };
-        sample::set_slot(&mut store, number, slot);
+        sample::set_slot(&mut store, number, slot(sample::ACCESS, number, number % clients));
     }
     store
+}
+
+/// A live slot. A token is its own origin.
+fn slot(kind: u8, number: usize, client: usize) -> Slot {
+    let (client, origin) = (client as u8, handle(number));
+    Slot { client, farm: 7, scope: 9, origin, ..Slot::of(kind, handle(number), NOW + 1) }.turned(kind)
 }
 
 fn check_case(name: &'static str, clients: &[Client], live: usize, token: usize) -> Case {
@@ -148,17 +158,18 @@ fn check_case(name: &'static str, clients: &[Client], live: usize, token: usize)
     Case { name, request, registry: sample::registry(clients), store: store(live, clients.len()) }
 }
 
-/// A store in which the last slot but one is presented and the last one has run out.
-fn issuing_store(clients: usize, live: usize, kind: u8) -> Vec<u8> {
+/// A store in which the last slot but two is presented and the last two have run out. Behind a spent code they are live
+/// and came from it.
+fn presenting_store(clients: usize, live: usize, kind: u8) -> Vec<u8> {
     let mut store = store(live, clients);
-    let last = Slot { client: clients as u8 - 1, handle: handle(PRESENTED), farm: 7, scope: 9, kind, expiry: NOW + 1 };
-    sample::set_slot(&mut store, PRESENTED, last);
-    if live > VACANT {
-        sample::set_slot(
-            &mut store,
-            VACANT,
-            Slot { kind: sample::ACCESS, handle: handle(VACANT), expiry: NOW, ..last },
-        );
+    sample::set_slot(&mut store, PRESENTED, slot(kind, PRESENTED, clients - 1));
+    for number in BEHIND.into_iter().filter(|&number| number < live) {
+        let token = slot(sample::ACCESS, number, clients - 1);
+        let token = match kind {
+            sample::SPENT => Slot { origin: handle(PRESENTED), ..token },
+            _ => Slot { expiry: NOW, ..token },
+        };
+        sample::set_slot(&mut store, number, token);
     }
     store
 }
@@ -167,7 +178,7 @@ fn authorize_case(clients: &[Client], live: usize) -> Case {
     let last = clients.last().expect("a client");
     let id: String = last.id.escape_ascii().to_string().replace(' ', "+");
     let query = format!("response_type=code&client_id={id}&state=af0ifjsldkj&scope=power+bill");
-    let store = issuing_store(clients.len(), live, sample::ACCESS);
+    let store = presenting_store(clients.len(), live, sample::ACCESS);
     Case { name: "authorize", request: Request::Authorize(query), registry: sample::registry(clients), store }
 }
 
@@ -175,13 +186,19 @@ fn token_case(name: &'static str, clients: &[Client], live: usize) -> Case {
     let last = clients.last().expect("a client");
     let header = sample::basic_header(&last.id, last.secret.as_ref().expect("a secret"));
     let presented = sample::hex(&handle(PRESENTED));
+    let exchange = format!("grant_type=authorization_code&code={presented}");
     let (kind, body) = match name {
-        "exchange" => (sample::CODE, format!("grant_type=authorization_code&code={presented}")),
+        "exchange" => (sample::CODE, exchange),
+        "second showing" => (sample::SPENT, exchange),
         "client credentials" => (sample::ACCESS, "grant_type=client_credentials&scope=power".into()),
         _ => (sample::REFRESH, format!("grant_type=refresh_token&refresh_token={presented}&scope=power")),
     };
-    let store = issuing_store(clients.len(), live, kind);
-    Case { name, request: Request::Token(header, body), registry: sample::registry(clients), store }
+    let request = match kind {
+        sample::SPENT => Request::SecondShowing(header, body),
+        _ => Request::Token(header, body),
+    };
+    let store = presenting_store(clients.len(), live, kind);
+    Case { name, request, registry: sample::registry(clients), store }
 }
 
 // ---- report
@@ -203,8 +220,11 @@ fn main() {
     println!(
         "ours and {BATCH} of plain, each round starting one place further on; the figures are medians over the rounds."
     );
-    println!("All slots are live but the ones that a call takes, which have run out and are put back after each call");
-    println!("(70 bytes, for both programs). The presented slot and the one taken are the last two, the client the last one.");
+    println!(
+        "All slots are live but the ones that a call takes, which have run out. The last three are put back after each"
+    );
+    println!("call (165 bytes, for both programs): the presented one and those that are taken, or cleared by a second showing.");
+    println!("The client is the last one.");
     println!("Both programs are optimised for plain x86-64.");
 }
 
@@ -216,6 +236,7 @@ fn full_store(title: &str, clients: &[Client]) {
         check_case("check, token nowhere", clients, live, live),
         authorize_case(clients, live),
         token_case("exchange", clients, live),
+        token_case("second showing", clients, live),
         token_case("refresh", clients, live),
         token_case("client credentials", clients, live),
     ];

@@ -4,7 +4,7 @@ use super::form::{self, Field, Form};
 use super::handle::{self, Handle};
 use super::registry::{Client, Registry};
 use super::scope::ScopeSet;
-use super::store::{Grant, Kind, Store, NO_FARM};
+use super::store::{Grant, Kind, Store, NO_FARM, NO_ORIGIN};
 use super::{admit, write, Unfit, FORM_LIMIT, LEAST_OUTPUT};
 use crate::answers::{Authorization, ErrorWord};
 
@@ -106,7 +106,7 @@ impl Request {
             return Err(ErrorWord::ServerError);
         }
         let kind = if self.bound { Kind::BoundCode } else { Kind::Code };
-        store.issue(kind, handle, &Grant { client: self.client, farm, scope }, now);
+        store.issue(kind, handle, &Grant { client: self.client, farm, scope, origin: NO_ORIGIN }, now);
         Ok(*handle)
     }
 

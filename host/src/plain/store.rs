@@ -6,7 +6,7 @@ use super::CLOCK_LIMIT;
 
 pub const SLOTS: usize = 512;
 pub const TIME_SIZE: usize = 8;
-pub const SLOT_SIZE: usize = 35;
+pub const SLOT_SIZE: usize = ORIGIN + HANDLE_SIZE;
 pub const STORE_SIZE: usize = TIME_SIZE + SLOTS * SLOT_SIZE;
 
 // Where the fields of a slot begin, behind its kind.
@@ -15,6 +15,7 @@ const CLIENT: usize = HANDLE + HANDLE_SIZE;
 const FARM: usize = CLIENT + 1;
 const SCOPE: usize = FARM + 4;
 const EXPIRY: usize = SCOPE + 1;
+const ORIGIN: usize = EXPIRY + 8;
 
 const FREE: u8 = 0;
 
@@ -27,13 +28,15 @@ pub enum Kind {
     BoundCode = 2,
     Access = 3,
     Refresh = 4,
+    /// A code that was exchanged. It is kept for as long as it would have lived, so that a second showing is noticed.
+    Spent = 5,
 }
 
 impl Kind {
     /// How long it lives from its issue, in seconds.
     pub fn lifetime(self) -> u64 {
         match self {
-            Kind::Code | Kind::BoundCode => 600,
+            Kind::Code | Kind::BoundCode | Kind::Spent => 600,
             Kind::Access => 3_600,
             Kind::Refresh => 2_592_000,
         }
@@ -43,12 +46,17 @@ impl Kind {
 /// The farm of what a client is granted for itself: there is no owner to ask.
 pub const NO_FARM: u32 = 0;
 
+/// The origin of a code, which comes from none.
+pub const NO_ORIGIN: Handle = [0; HANDLE_SIZE];
+
 /// What an issue grants: the client, the farm whose owner allowed it, and the scope.
 #[derive(Clone, Copy, Debug, PartialEq, Eq)]
 pub struct Grant {
     pub client: usize,
     pub farm: u32,
     pub scope: ScopeSet,
+    /// The code that a token came from, itself or through a refresh token; of a client's token for itself, the token.
+    pub origin: Handle,
 }
 
 /// A slot in use.
@@ -108,11 +116,22 @@ impl<'a> Store<'a> {
         slot[CLIENT] = grant.client as u8;
         slot[FARM..SCOPE].copy_from_slice(&grant.farm.to_be_bytes());
         slot[SCOPE] = grant.scope.0;
-        slot[EXPIRY..].copy_from_slice(&(now + kind.lifetime()).to_be_bytes());
+        slot[EXPIRY..ORIGIN].copy_from_slice(&(now + kind.lifetime()).to_be_bytes());
+        slot[ORIGIN..].copy_from_slice(&grant.origin);
     }
 
-    pub fn clear(&mut self, number: usize) {
-        self.slot_mut(number).fill(0);
+    /// Marks the code in this slot as exchanged; all else that the slot holds stays.
+    pub fn spend(&mut self, number: usize) {
+        self.slot_mut(number)[0] = Kind::Spent as u8;
+    }
+
+    /// Clears every access and refresh token of this origin, whoever's it is, run out or not.
+    pub fn clear_tokens(&mut self, origin: &Handle) {
+        for slot in self.bytes[TIME_SIZE..].chunks_exact_mut(SLOT_SIZE) {
+            if is_token(slot) && slot[ORIGIN..] == origin[..] {
+                slot.fill(0);
+            }
+        }
     }
 
     fn slots(&self) -> std::slice::ChunksExact<'_, u8> {
@@ -130,10 +149,15 @@ impl<'a> Store<'a> {
             2 => Kind::BoundCode,
             3 => Kind::Access,
             4 => Kind::Refresh,
+            5 => Kind::Spent,
             _ => return None,
         };
-        let farm = u32::from_be_bytes(slot[FARM..SCOPE].try_into().expect("four bytes"));
-        let grant = Grant { client: slot[CLIENT].into(), farm, scope: ScopeSet(slot[SCOPE]) };
+        let grant = Grant {
+            client: slot[CLIENT].into(),
+            farm: u32::from_be_bytes(slot[FARM..SCOPE].try_into().expect("four bytes")),
+            scope: ScopeSet(slot[SCOPE]),
+            origin: slot[ORIGIN..].try_into().expect("twenty bytes"),
+        };
         Some(Entry { kind, grant, expiry: expiry(slot) })
     }
 }
@@ -141,9 +165,17 @@ impl<'a> Store<'a> {
 fn is_fit(slot: &[u8], clients: usize) -> bool {
     match slot[0] {
         FREE => slot.iter().all(|&byte| byte == 0),
-        1..=4 => usize::from(slot[CLIENT]) < clients && slot[SCOPE] != 0,
+        1..=5 => {
+            usize::from(slot[CLIENT]) < clients
+                && slot[SCOPE] != 0
+                && (is_token(slot) || slot[ORIGIN..] == NO_ORIGIN[..])
+        }
         _ => false,
     }
+}
+
+fn is_token(slot: &[u8]) -> bool {
+    slot[0] == Kind::Access as u8 || slot[0] == Kind::Refresh as u8
 }
 
 fn is_vacant(slot: &[u8], now: u64) -> bool {
@@ -151,7 +183,7 @@ fn is_vacant(slot: &[u8], now: u64) -> bool {
 }
 
 fn expiry(slot: &[u8]) -> u64 {
-    big_endian_64(&slot[EXPIRY..])
+    big_endian_64(&slot[EXPIRY..ORIGIN])
 }
 
 fn big_endian_64(bytes: &[u8]) -> u64 {

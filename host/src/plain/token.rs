@@ -1,4 +1,4 @@
-//! The token endpoint (RFC 6749 sections 2.3.1, 3.2, 4.1.3, 4.1.4, 4.4, 5 and 6).
+//! The token endpoint (RFC 6749 sections 2.3.1, 3.2, 4.1.2 to 4.1.4, 4.4, 5 and 6).
 
 use super::base64;
 use super::form::{self, Field, Form};
@@ -10,6 +10,8 @@ use super::{admit, write, Admitted, Unfit, FORM_LIMIT, LEAST_OUTPUT};
 use crate::answers::{ErrorWord, TokenReply};
 
 const HEADER_LIMIT: usize = 512;
+/// The codes that can be exchanged.
+const UNSPENT: &[Kind] = &[Kind::Code, Kind::BoundCode];
 const KNOWN_NAMES: [&str; 7] =
     ["grant_type", "code", "redirect_uri", "client_id", "client_secret", "refresh_token", "scope"];
 
@@ -135,24 +137,36 @@ impl Request {
         admitted: &mut Admitted,
         [access, refresh]: &[Handle; 2],
     ) -> Result<String, Denial> {
-        let (number, entry) = self.find(&[Kind::Code, Kind::BoundCode], code, admitted)?;
+        let code = handle::parse(code).ok_or(ErrorWord::InvalidGrant)?;
+        if admitted.store.find(UNSPENT, &code).is_none() {
+            self.show_again(&code, admitted);
+            return Err(ErrorWord::InvalidGrant.into());
+        }
+        let (number, entry) = self.find(UNSPENT, &code, admitted)?;
         let registered = admitted.registry.client(self.client).redirect;
         if entry.kind == Kind::BoundCode && redirect != Some(registered) {
             return Err(ErrorWord::InvalidGrant.into());
         }
         let Admitted { store, now, .. } = admitted;
-        // The code's own slot, live until now, counts as room; its handle still counts as in use.
-        let room = store.room(*now) + 1;
-        if room < 2 {
+        if store.room(*now) < 2 {
             return Err(Denial::NoRoom);
         }
         if access == refresh || store.has_handle(access) || store.has_handle(refresh) {
             return Err(Denial::Clash);
         }
-        store.clear(number);
-        store.issue(Kind::Access, access, &entry.grant, *now);
-        store.issue(Kind::Refresh, refresh, &entry.grant, *now);
-        Ok(reply(access, Some(refresh), entry.grant.scope))
+        let grant = Grant { origin: code, ..entry.grant };
+        store.spend(number);
+        store.issue(Kind::Access, access, &grant, *now);
+        store.issue(Kind::Refresh, refresh, &grant, *now);
+        Ok(reply(access, Some(refresh), grant.scope))
+    }
+
+    /// A code that this client has exchanged before is in other hands too (RFC 6749 section 4.1.2): while it would have
+    /// lived, showing it again clears every token that came from it.
+    fn show_again(&self, code: &Handle, admitted: &mut Admitted) {
+        if self.find(&[Kind::Spent], code, admitted).is_ok() {
+            admitted.store.clear_tokens(code);
+        }
     }
 
     fn refresh(
@@ -162,7 +176,8 @@ impl Request {
         admitted: &mut Admitted,
         access: &Handle,
     ) -> Result<String, Denial> {
-        let (_, entry) = self.find(&[Kind::Refresh], token, admitted)?;
+        let token = handle::parse(token).ok_or(ErrorWord::InvalidGrant)?;
+        let (_, entry) = self.find(&[Kind::Refresh], &token, admitted)?;
         let scope = ScopeSet::asked(scope, entry.grant.scope).ok_or(ErrorWord::InvalidScope)?;
         issue_access(&Grant { scope, ..entry.grant }, admitted, access)
     }
@@ -179,13 +194,12 @@ impl Request {
             return Err(ErrorWord::UnauthorizedClient.into());
         }
         let scope = ScopeSet::asked(scope, client.scope).ok_or(ErrorWord::InvalidScope)?;
-        issue_access(&Grant { client: self.client, farm: NO_FARM, scope }, admitted, access)
+        issue_access(&Grant { client: self.client, farm: NO_FARM, scope, origin: *access }, admitted, access)
     }
 
-    /// The live slot of this client that the presented text names.
-    fn find(&self, kinds: &[Kind], presented: &[u8], admitted: &Admitted) -> Result<(usize, Entry), ErrorWord> {
-        let handle = handle::parse(presented).ok_or(ErrorWord::InvalidGrant)?;
-        let (number, entry) = admitted.store.find(kinds, &handle).ok_or(ErrorWord::InvalidGrant)?;
+    /// The slot that a presented handle names, if it is live and this client's.
+    fn find(&self, kinds: &[Kind], handle: &Handle, admitted: &Admitted) -> Result<(usize, Entry), ErrorWord> {
+        let (number, entry) = admitted.store.find(kinds, handle).ok_or(ErrorWord::InvalidGrant)?;
         if admitted.now >= entry.expiry || entry.grant.client != self.client {
             return Err(ErrorWord::InvalidGrant);
         }

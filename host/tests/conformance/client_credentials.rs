@@ -27,15 +27,13 @@ fn host() -> Host {
 /// The same, with live slots in all places from `first` on.
 fn filled_from(first: usize) -> Host {
     let mut host = host();
-    for number in first..sample::SLOTS {
-        host.set_slot(number, other_slot());
-    }
+    host.set_slots(first..sample::SLOTS, other_slot());
     host
 }
 
 /// A live slot that the requests here have nothing to do with.
 fn other_slot() -> Slot {
-    Slot { kind: sample::REFRESH, handle: [1; 20], client: 1, farm: 5, scope: 1, expiry: 9000 }
+    Slot { client: 1, farm: 5, ..Slot::of(sample::REFRESH, [1; 20], 9000) }
 }
 
 /// The reply with the first twenty of the random bytes from 20 on.
@@ -50,11 +48,12 @@ fn one_access_token_for_farm_0() {
     for (header, body) in [(BASIC, BODY), ("", BY_BODY), (BASIC, "grant_type=client_credentials&client_id=grainpool")] {
         let mut host = host();
         assert_eq!(host.token(header, body, 1000, 0x20), token_for("pump solar"));
-        // The time, then the slot: kind 3, the handle, client 2, farm 0, its scope set, expiry 4600.
-        let slot = [&[3][..], &counting(0x20), &[2], &[0; 4], &[192], &[0, 0, 0, 0, 0, 0, 0x11, 0xf8]].concat();
+        // The time, then the slot: kind 3, the handle, client 2, farm 0, its scope set, expiry 4600, the handle again.
+        let expiry = [0, 0, 0, 0, 0, 0, 0x11, 0xf8];
+        let slot = [&[3][..], &counting(0x20), &[2], &[0; 4], &[192], &expiry, &counting(0x20)].concat();
         let expected = [&[0, 0, 0, 0, 0, 0, 0x03, 0xe8], &slot[..]].concat();
-        assert_eq!(host.store[..8 + 35], expected);
-        assert!(host.store[8 + 35..].iter().all(|&byte| byte == 0), "one slot");
+        assert_eq!(host.store[..8 + 55], expected);
+        assert!(host.store[8 + 55..].iter().all(|&byte| byte == 0), "one slot");
     }
 }
 
@@ -193,11 +192,11 @@ fn the_lowest_vacant_slot_is_taken() {
 
 #[test]
 fn the_first_twenty_random_bytes_may_not_be_in_use() {
-    for kind in [sample::CODE, sample::BOUND_CODE, sample::ACCESS, sample::REFRESH] {
+    for kind in sample::KINDS {
         // Live, run out long ago, and the slot that would be taken.
         for (number, expiry) in [(511, 9000), (200, 1), (0, 1000)] {
             let mut host = host();
-            host.set_slot(number, Slot { kind, handle: counting(0x20), expiry, ..other_slot() });
+            host.set_slot(number, Slot { handle: counting(0x20), expiry, ..other_slot().turned(kind) });
             assert_eq!(host.token(BASIC, BODY, 1000, 0x20).status, 500, "kind {kind} in slot {number}");
         }
     }
@@ -289,7 +288,7 @@ fn farm_0_is_denied_in_the_place_of_the_owners_denial() {
 fn slots_of_farm_0_that_lie_in_a_store_stay_usable() {
     for kind in [sample::CODE, sample::BOUND_CODE] {
         let mut host = host();
-        let code = Slot { kind, handle: [7; 20], client: 1, farm: 0, scope: 1, expiry: 2000 };
+        let code = Slot { client: 1, farm: 0, ..Slot::of(kind, [7; 20], 2000) };
         host.set_slot(3, code);
         let body = format!("code={}&redirect_uri=https://barn.example/r?x=1&client_id=barnapp", code.handle_text());
         assert_eq!(host.token("", format!("grant_type=authorization_code&{body}"), 1000, 0x20).status, 200);

@@ -1,8 +1,9 @@
 //! Demand 3, run as a program over calls and answers alone.
 //!
-//! The judge keeps what the calls so far contain: which codes and tokens were issued, to whom, for how long, and which
-//! codes were exchanged. It never looks at the store. From that it says of every exchange, refresh, request by client
-//! credentials and check whether it must succeed, and the exports' answers must be exactly so.
+//! The judge keeps what the calls so far contain: which codes and tokens were issued, to whom, for how long, which codes
+//! were exchanged, and which were shown a second time. It does not look at the store. From that it says of every
+//! exchange, refresh, request by client credentials and check whether it must succeed, and the exports' answers must be
+//! exactly so. Of the store it says only what the demand's last sentence says: which slots a refused call leaves.
 
 use std::collections::HashSet;
 
@@ -11,7 +12,7 @@ use poplarchime_host::plain::scope::NAMES;
 use poplarchime_host::plain::token::Asked;
 use poplarchime_host::plain::{authorization, token};
 use poplarchime_host::program::EXPORTS;
-use poplarchime_host::sample;
+use poplarchime_host::sample::{self, Slot};
 
 use crate::support::call::{Answer, Call, Request};
 use crate::support::compare::{keeps_demand_1, run, After};
@@ -40,23 +41,37 @@ impl What {
     }
 }
 
+/// What a code or token is good for.
+#[derive(Clone, Debug)]
+struct Grant {
+    client: usize,
+    farm: u32,
+    /// The names, as a set.
+    scope: u8,
+    /// The code that a token was got by, itself or through a refresh token.
+    origin: Option<String>,
+}
+
 /// A code or token that a call answered with.
 #[derive(Clone, Debug)]
 struct Issue {
     what: What,
     /// As the answer had it.
     text: String,
-    client: usize,
-    farm: u32,
-    /// The names, as a set.
-    scope: u8,
+    grant: Grant,
     expiry: u64,
     exchanged: bool,
+    /// The origin was shown a second time.
+    withdrawn: bool,
 }
 
 impl Issue {
+    fn has_run_out(&self, now: u64) -> bool {
+        now >= self.expiry
+    }
+
     fn is_live(&self, now: u64) -> bool {
-        now < self.expiry
+        !self.has_run_out(now) && !self.withdrawn
     }
 }
 
@@ -100,7 +115,8 @@ impl Judge {
                 let issued = self.issued(token).filter(|issue| issue.what == What::Access);
                 verdict(&[
                     ("not issued as an access token", issued.is_some()),
-                    ("run out", issued.is_none_or(|issue| issue.is_live(self.now(call)))),
+                    ("run out", issued.is_none_or(|issue| !issue.has_run_out(self.now(call)))),
+                    ("withdrawn", issued.is_none_or(|issue| !issue.withdrawn)),
                 ])
             }
             Request::Token { header, body } => match token::Request::read(header, body, &registry) {
@@ -124,11 +140,11 @@ impl Judge {
         let bound = issued.is_some_and(|issue| issue.what == What::Code { bound: true });
         verdict(&[
             ("not issued as a code", issued.is_some()),
-            ("issued to another client", issued.is_none_or(|issue| issue.client == client)),
-            ("run out", issued.is_none_or(|issue| issue.is_live(now))),
+            ("issued to another client", issued.is_none_or(|issue| issue.grant.client == client)),
+            ("run out", issued.is_none_or(|issue| !issue.has_run_out(now))),
             ("exchanged before", issued.is_none_or(|issue| !issue.exchanged)),
             ("redirect not repeated", !bound || redirect_repeated),
-            ("no room", self.standing(now, Some(code)) + 2 <= ROOM),
+            ("no room", self.standing(now) + 2 <= ROOM),
         ])
     }
 
@@ -136,10 +152,11 @@ impl Judge {
         let issued = self.issued(token).filter(|issue| issue.what == What::Refresh);
         verdict(&[
             ("not issued as a refresh token", issued.is_some()),
-            ("issued to another client", issued.is_none_or(|issue| issue.client == client)),
-            ("run out", issued.is_none_or(|issue| issue.is_live(now))),
-            ("scope not within", issued.is_none_or(|issue| is_within(scope, issue.scope))),
-            ("no room", self.standing(now, None) < ROOM),
+            ("issued to another client", issued.is_none_or(|issue| issue.grant.client == client)),
+            ("run out", issued.is_none_or(|issue| !issue.has_run_out(now))),
+            ("withdrawn", issued.is_none_or(|issue| !issue.withdrawn)),
+            ("scope not within", issued.is_none_or(|issue| is_within(scope, issue.grant.scope))),
+            ("no room", self.standing(now) < ROOM),
         ])
     }
 
@@ -147,8 +164,18 @@ impl Judge {
         verdict(&[
             ("a public client", client.secret.is_some()),
             ("scope not within", is_within(scope, client.scope.0)),
-            ("no room", self.standing(now, None) < ROOM),
+            ("no room", self.standing(now) < ROOM),
         ])
+    }
+
+    /// The code that the call shows a second time: it was exchanged before, and is live and that of the client.
+    fn shown_again(&self, call: &Call) -> Option<&Issue> {
+        let Request::Token { header, body } = &call.request else { return None };
+        let registry = Registry::parse(&call.registry)?;
+        let token::Request { client, asked } = token::Request::read(header, body, &registry).ok()?;
+        let Asked::Exchange { code, .. } = asked else { return None };
+        let is_clients = |issue: &&Issue| issue.grant.client == client && !issue.has_run_out(self.now(call));
+        self.issued(&code).filter(is_clients).filter(|issue| issue.exchanged)
     }
 
     /// The issue of a code or token. Under the premise no two have the same text.
@@ -156,17 +183,24 @@ impl Judge {
         self.issues.iter().find(|issue| issue.text.as_bytes() == text)
     }
 
-    /// How many issues take room: not exchanged and live, the code presented left out.
-    fn standing(&self, now: u64, own: Option<&[u8]>) -> usize {
-        let standing = |issue: &&Issue| {
-            let own = matches!(issue.what, What::Code { .. }) && own == Some(issue.text.as_bytes());
-            issue.is_live(now) && !issue.exchanged && !own
-        };
-        self.issues.iter().filter(standing).count()
+    /// How many issues take room: all that are live, exchanged codes too.
+    fn standing(&self, now: u64) -> usize {
+        self.issues.iter().filter(|issue| issue.is_live(now)).count()
+    }
+
+    /// The texts of all tokens that came from the code that the call shows a second time.
+    fn withdrawn_by(&self, call: &Call) -> HashSet<String> {
+        let Some(code) = self.shown_again(call) else { return HashSet::new() };
+        let came_from_it = |issue: &&Issue| issue.grant.origin.as_ref() == Some(&code.text);
+        self.issues.iter().filter(came_from_it).map(|issue| issue.text.clone()).collect()
     }
 
     /// Takes in a call that was seen, and its answer.
     fn record(&mut self, call: &Call, after: &After) {
+        let withdrawn = self.withdrawn_by(call);
+        for issue in self.issues.iter_mut().filter(|issue| withdrawn.contains(&issue.text)) {
+            issue.withdrawn = true;
+        }
         self.random.extend(call.random.chunks(20).map(<[u8]>::to_vec));
         self.latest = self.now(call);
         let registry = Registry::parse(&call.registry).expect("a call past refusal 2");
@@ -176,7 +210,8 @@ impl Judge {
                 let asked = authorization::Request::read(query, &registry).expect("it was granted");
                 let scope = asked.scope.expect("it was granted").0;
                 let text = behind(&after.text(), "code=", "&").expect("a code in the location");
-                self.issue(What::Code { bound: asked.bound }, text, asked.client, *farm, scope);
+                let grant = Grant { client: asked.client, farm: *farm, scope, origin: None };
+                self.issue(What::Code { bound: asked.bound }, text, grant);
             }
             Request::Token { header, body } if after.answer.issued() => {
                 let request = token::Request::read(header, body, &registry).expect("it was granted");
@@ -193,29 +228,27 @@ impl Judge {
             Asked::Exchange { code, .. } => {
                 let issued = self.issues.iter_mut().find(|issue| issue.text.as_bytes() == code).expect("judged before");
                 issued.exchanged = true;
-                let Issue { client, farm, scope, .. } = *issued;
-                self.issue(What::Access, access, client, farm, scope);
-                let refresh = refresh.expect("a refresh token in the reply");
-                self.issue(What::Refresh, refresh, client, farm, scope);
+                let grant = Grant { origin: Some(issued.text.clone()), ..issued.grant.clone() };
+                self.issue(What::Access, access, grant.clone());
+                self.issue(What::Refresh, refresh.expect("a refresh token in the reply"), grant);
             }
             Asked::Refresh { token, scope } => {
                 assert_eq!(refresh, None, "a refresh issues one token");
-                let issued = self.issued(token).expect("judged before");
-                let (client, farm) = (issued.client, issued.farm);
-                let scope = scope.as_deref().map_or(issued.scope, set_of);
-                self.issue(What::Access, access, client, farm, scope);
+                let grant = self.issued(token).expect("judged before").grant.clone();
+                let scope = scope.as_deref().map_or(grant.scope, set_of);
+                self.issue(What::Access, access, Grant { scope, ..grant });
             }
             Asked::ClientCredentials { scope } => {
                 assert_eq!(refresh, None, "client credentials get one token");
                 let scope = scope.as_deref().map_or(registry.client(request.client).scope.0, set_of);
-                self.issue(What::Access, access, request.client, NO_FARM, scope);
+                self.issue(What::Access, access, Grant { client: request.client, farm: NO_FARM, scope, origin: None });
             }
         }
     }
 
-    fn issue(&mut self, what: What, text: String, client: usize, farm: u32, scope: u8) {
+    fn issue(&mut self, what: What, text: String, grant: Grant) {
         let expiry = self.latest + what.lifetime();
-        self.issues.push(Issue { what, text, client, farm, scope, expiry, exchanged: false });
+        self.issues.push(Issue { what, text, grant, expiry, exchanged: false, withdrawn: false });
     }
 
     /// Fails unless the answer is what the calls before it demand.
@@ -231,11 +264,29 @@ impl Judge {
                 assert_eq!(answer.live, 1, "{call}");
                 let named = (answer.client as usize, answer.farm, answer.scope, answer.seconds_left);
                 let left = issue.expiry - self.now(call);
-                assert_eq!(named, (issue.client, issue.farm, issue.scope.into(), left), "{call}");
+                let Grant { client, farm, scope, .. } = issue.grant;
+                assert_eq!(named, (client, farm, scope.into(), left), "{call}");
             }
             (Verdict::Refused(why), Answer::Check(answer)) => assert_eq!(answer.live, 0, "{why:?}\n{call}"),
             (verdict, answer) => panic!("{verdict:?} of {answer:?}"),
         }
+    }
+
+    /// Fails unless a refused call left every slot as it was, but for the tokens that it withdrew: their slots are zero.
+    fn hold_slots(&self, call: &Call, before: &[u8], after: &After) {
+        if after.answer.issued() {
+            return;
+        }
+        let withdrawn = self.withdrawn_by(call);
+        let mut expected = before.to_vec();
+        if !withdrawn.is_empty() {
+            for (number, slot) in sample::slots(before).enumerate() {
+                if withdrawn.contains(&slot.handle_text()) {
+                    sample::set_slot(&mut expected, number, Slot::default());
+                }
+            }
+        }
+        assert!(after.store[8..] == expected[8..], "a refused call left other slots\n{call}");
     }
 }
 
@@ -271,7 +322,7 @@ fn behind(text: &str, before: &str, end: &str) -> Option<String> {
 // ---- long sequences
 
 const SEQUENCES: u64 = 16;
-const CALLS: usize = 4_800;
+const CALLS: usize = 5_400;
 /// Where time begins: at zero, about now, and a little before the highest clock.
 const FIRST_CLOCKS: [u64; 3] = [0, 1_800_000_000, (1 << 40) - 4_000_000];
 
@@ -287,6 +338,7 @@ fn expected_verdicts() -> Vec<String> {
         "refresh: not issued as a refresh token",
         "refresh: issued to another client",
         "refresh: run out",
+        "refresh: withdrawn",
         "refresh: scope not within",
         "refresh: no room",
         "client credentials: a public client",
@@ -294,6 +346,7 @@ fn expected_verdicts() -> Vec<String> {
         "client credentials: no room",
         "check: not issued as an access token",
         "check: run out",
+        "check: withdrawn",
     ];
     let others = [
         "exchange: yields",
@@ -310,29 +363,36 @@ fn expected_verdicts() -> Vec<String> {
     alone.iter().chain(&others).map(|&name| name.into()).collect()
 }
 
+#[derive(Default)]
+struct Counts {
+    verdicts: Tally,
+    /// The most issues that took room at once.
+    fullest: usize,
+    /// Calls that showed a code a second time, and live tokens that they withdrew.
+    second_showings: usize,
+    withdrawn: usize,
+}
+
 #[test]
 fn demand_3_holds_of_long_histories() {
-    let mut tally = Tally::default();
+    let mut counts = Counts::default();
     let mut longest = 0;
-    let mut fullest = 0;
     for seed in 0..SEQUENCES {
-        let judge = history(seed, &mut tally, &mut fullest);
+        let judge = history(seed, &mut counts);
         longest = longest.max(judge.issues.len());
     }
-    println!("up to {longest} issues in a history, up to {fullest} of them standing at once");
-    assert_eq!(fullest, ROOM, "no history filled the store");
-    tally.require("verdicts on calls in histories", &expected_verdicts(), 20);
+    println!("up to {longest} issues in a history, up to {} of them standing at once", counts.fullest);
+    println!("{} codes shown a second time, {} live tokens withdrawn", counts.second_showings, counts.withdrawn);
+    assert_eq!(counts.fullest, ROOM, "no history filled the store");
+    assert!(counts.second_showings >= 1_000, "too few codes were shown a second time");
+    assert!(counts.withdrawn >= 1_500, "too few tokens were withdrawn");
+    counts.verdicts.require("verdicts on calls in histories", &expected_verdicts(), 20);
 }
 
 /// One history from a fresh store, with one registry; every call is handed the store as the last one left it.
-fn history(seed: u64, tally: &mut Tally, fullest: &mut usize) -> Judge {
+fn history(seed: u64, counts: &mut Counts) -> Judge {
     let mut rng = Rng::new(1_000_000 + seed);
-    let clients = match seed % 4 {
-        0 => sample::visit_clients(),
-        1 => random_clients(1, &mut rng),
-        2 => random_clients(6, &mut rng),
-        _ => random_clients(64, &mut rng),
-    };
+    let clients = some_clients(seed, &mut rng);
     let registry = sample::registry(&clients);
     let mut world = World::new(clients, Start::Fresh, &mut rng);
     let mut judge = Judge::default();
@@ -348,7 +408,7 @@ fn history(seed: u64, tally: &mut Tally, fullest: &mut usize) -> Judge {
         let after = run(&EXPORTS, &drawn.call, &world.store);
         keeps_demand_1(&drawn.call, &world.store, &after);
         if (1..=4).contains(&after.answer.refusal()) {
-            tally.add("not seen (refused with 1 to 4)");
+            counts.verdicts.add("not seen (refused with 1 to 4)");
             continue;
         }
         if drawn.call.registry != registry || !judge.is_within_premise(&drawn.call) {
@@ -356,12 +416,35 @@ fn history(seed: u64, tally: &mut Tally, fullest: &mut usize) -> Judge {
         }
         let verdict = judge.judge(&drawn.call);
         judge.hold(&drawn.call, &verdict, &after.answer);
-        tally.add(label(drawn.action.name(), &verdict, &after.answer));
+        judge.hold_slots(&drawn.call, &world.store, &after);
+        counts.verdicts.add(label(drawn.action.name(), &verdict, &after.answer));
+        counts.add(&judge, &drawn.call);
         judge.record(&drawn.call, &after);
         world.carry(drawn, after, &mut rng);
-        *fullest = judge.standing(judge.latest, None).max(*fullest);
+        counts.fullest = judge.standing(judge.latest).max(counts.fullest);
     }
     judge
+}
+
+fn some_clients(seed: u64, rng: &mut Rng) -> Vec<sample::Client> {
+    match seed % 4 {
+        0 => sample::visit_clients(),
+        1 => random_clients(1, rng),
+        2 => random_clients(6, rng),
+        _ => random_clients(64, rng),
+    }
+}
+
+impl Counts {
+    /// Counts a second showing that is about to be recorded.
+    fn add(&mut self, judge: &Judge, call: &Call) {
+        if judge.shown_again(call).is_some() {
+            self.second_showings += 1;
+            let withdrawn = judge.withdrawn_by(call);
+            let is_ended = |issue: &&Issue| withdrawn.contains(&issue.text) && issue.is_live(judge.now(call));
+            self.withdrawn += judge.issues.iter().filter(is_ended).count();
+        }
+    }
 }
 
 /// A check of nothing, which sets the time.

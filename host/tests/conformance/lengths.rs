@@ -16,7 +16,7 @@ fn store() -> Vec<u8> {
     let mut store = sample::empty_store();
     for (number, kind) in [sample::CODE, sample::ACCESS, sample::REFRESH].into_iter().enumerate() {
         let handle = [0xab + number as u8; 20];
-        sample::set_slot(&mut store, number, Slot { kind, handle, client: 0, farm: 1, scope: 1, expiry: 2000 });
+        sample::set_slot(&mut store, number, Slot::of(kind, handle, 2000));
     }
     store
 }
@@ -41,7 +41,7 @@ fn draft(action: Action) -> Draft {
 
 #[track_caller]
 fn expect(draft: &Draft, outcome: &str) {
-    assert_eq!(run_both(&draft.call(), &draft.store).answer.outcome(), outcome, "{}", draft.call());
+    assert_eq!(run_both(&draft.call(), &draft.store).outcome(), outcome, "{}", draft.call());
 }
 
 #[test]
@@ -223,7 +223,7 @@ fn unused_bytes_of_a_record() {
 #[test]
 fn bytes_of_a_free_slot() {
     for slot in [3, 100, 511] {
-        for offset in 1..35 {
+        for offset in 1..sample::SLOT_SIZE {
             let mut draft = draft(Action::Check);
             draft.store[sample::slot_range(slot).start + offset] = 1;
             expect(&draft, "refusal 3");
@@ -234,15 +234,45 @@ fn bytes_of_a_free_slot() {
 #[test]
 fn kinds_and_clients_of_a_slot() {
     for number in 0..=255 {
-        let held = Slot { kind: number, handle: [9; 20], client: 1, farm: 0, scope: 1, expiry: 0 };
-        for (slot, fit) in [
-            (held, (1..=4).contains(&number)),
-            (Slot { kind: sample::REFRESH, client: number, ..held }, number < 2),
-            (Slot { kind: sample::REFRESH, scope: number, ..held }, number > 0),
-        ] {
+        let held = Slot { client: 1, farm: 0, ..Slot::of(number, [9; 20], 0) };
+        let mut slots = vec![(held, (1..=5).contains(&number))];
+        for kind in sample::KINDS {
+            slots.push((Slot { kind, client: number, ..held }, number < 2));
+            slots.push((Slot { kind, scope: number, ..held }, number > 0));
+        }
+        for (slot, fit) in slots {
             let mut draft = draft(Action::Check);
-            sample::set_slot(&mut draft.store, 511, slot);
+            draft.set_slot(511, slot);
             expect(&draft, if fit { "live" } else { "refusal 3" });
+        }
+    }
+}
+
+#[test]
+fn origin_of_a_slot() {
+    for kind in sample::KINDS {
+        let token = kind == sample::ACCESS || kind == sample::REFRESH;
+        for at in 0..20 {
+            for byte in [1, 0x80, 0xff] {
+                let mut draft = draft(Action::Check);
+                draft.set_slot(300, Slot::of(kind, [9; 20], 0));
+                expect(&draft, "live");
+                draft.store[sample::slot_range(300).start + sample::ORIGIN + at] = byte;
+                expect(&draft, if token { "live" } else { "refusal 3" });
+            }
+        }
+    }
+}
+
+#[test]
+fn stores_of_slots_without_an_origin() {
+    for action in Action::ALL {
+        for length in [17_927, 17_928, 17_929] {
+            let mut draft = draft(action);
+            draft.store.truncate(length);
+            expect(&draft, "refusal 3");
+            draft.store.fill(0);
+            expect(&draft, "refusal 3");
         }
     }
 }

@@ -12,4 +12,5 @@ mod readings;
 mod refusals;
 mod registries_and_stores;
 mod rfc6749;
+mod spent_codes;
 mod visit;

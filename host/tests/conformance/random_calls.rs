@@ -11,10 +11,11 @@ use crate::support::call::{credentials_in, Request};
 use crate::support::compare::run_both;
 use crate::support::draft::Action;
 use crate::support::rng::Rng;
+use crate::support::second_showing::second_showing;
 use crate::support::tally::Tally;
 use crate::support::world::{random_clients, Start, World};
 
-const SEQUENCES: usize = 5_280;
+const SEQUENCES: usize = 6_160;
 const CALLS: usize = 110;
 /// Each outcome and each reason must come up at least so often in all.
 const LEAST: usize = 25;
@@ -30,6 +31,9 @@ struct Counts {
     granted: usize,
     /// Calls that got tokens by a header whose credentials have a `%` or `+` in them.
     by_coded_header: usize,
+    /// Calls that showed a code a second time, and how many of them cleared tokens.
+    second_showings: usize,
+    clearing: usize,
 }
 
 #[test]
@@ -61,9 +65,11 @@ fn both_programs_agree_on_random_calls() {
     counts.outcomes.require("outcomes of random calls", &outcomes, LEAST);
     counts.reasons.require("what was done to random calls", &World::reasons(), LEAST);
     assert_eq!(counts.outcomes.total(), SEQUENCES * CALLS);
-    assert!(counts.carried >= 360_000, "too few calls carried the store along");
+    assert!(counts.carried >= 420_000, "too few calls carried the store along");
     assert!(counts.granted * 2 > counts.sound, "too few sound requests were granted");
     assert!(counts.by_coded_header >= 50_000, "too few clients were admitted by form-coded credentials");
+    assert!(counts.second_showings >= 8_000, "too few codes were shown a second time");
+    assert!(counts.clearing >= 5_000, "too few second showings cleared tokens");
 }
 
 impl Counts {
@@ -74,12 +80,15 @@ impl Counts {
         self.sound += other.sound;
         self.granted += other.granted;
         self.by_coded_header += other.by_coded_header;
+        self.second_showings += other.second_showings;
+        self.clearing += other.clearing;
     }
 
     fn print(&self) {
         println!("{} calls were handed the store as the last one left it", self.carried);
         println!("{} had nothing wrong put in, {} of them were granted or live", self.sound, self.granted);
         println!("{} got tokens by credentials with a % or + in the header", self.by_coded_header);
+        println!("{} showed a code a second time, {} of them cleared tokens", self.second_showings, self.clearing);
     }
 }
 
@@ -115,7 +124,7 @@ fn some_clients(rng: &mut Rng) -> Vec<Client> {
 fn one_call(world: &mut World, rng: &mut Rng, counts: &mut Counts) {
     let drawn = world.draw(rng, &mut counts.reasons);
     let after = run_both(&drawn.call, &drawn.store);
-    let outcome = after.answer.outcome();
+    let outcome = after.outcome();
     counts.outcomes.add(format!("{}: {outcome}", drawn.action.name()));
     if drawn.sound {
         counts.sound += 1;
@@ -124,6 +133,10 @@ fn one_call(world: &mut World, rng: &mut Rng, counts: &mut Counts) {
     if let Request::Token { header, .. } = &drawn.call.request {
         let coded = credentials_in(header).is_some_and(|held| held.contains(&b'%') || held.contains(&b'+'));
         counts.by_coded_header += usize::from(coded && outcome == "200");
+    }
+    if after.answer.refusal() == 0 && second_showing(&drawn.call, &drawn.store).is_some() {
+        counts.second_showings += 1;
+        counts.clearing += usize::from(!after.cleared.is_empty());
     }
     if drawn.store == world.store {
         counts.carried += 1;

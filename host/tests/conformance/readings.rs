@@ -2,9 +2,8 @@
 
 use poplarchime_host::sample::{self, Client};
 
-use crate::support::host::{bad_request, counting, redirected, unauthorized, Authorized, Host};
+use crate::support::host::{bad_request, counting, redirected, unauthorized, Authorized, Host, BASIC};
 
-const BASIC: &str = "Basic czZCaGRSa3F0MzpnWDFmQmF0M2JW";
 const BARNAPP: &str = "response_type=code&client_id=barnapp";
 
 fn code() -> String {
@@ -75,10 +74,15 @@ fn a_bound_code_is_compared_with_the_redirect_registered_now() {
 fn a_handle_that_is_issued_again_is_a_new_code() {
     let mut host = Host::visit();
     let body = format!("grant_type=authorization_code&code={}&client_id=barnapp", code());
-    for random in [0x20, 0x60, 0xa0] {
-        host.authorize(BARNAPP, 1, 1000, 0x00);
-        assert_eq!(host.token("", &body, 1000, random).status, 200);
-        assert_eq!(host.token("", &body, 1000, random), bad_request("invalid_grant"), "exchanged");
+    for (clock, random, others) in [(1000, 0x20, 1), (1600, 0x60, 2), (2200, 0xa0, 3)] {
+        host.authorize(BARNAPP, 1, clock, 0x00);
+        assert_eq!(host.token("", &body, clock, random).status, 200);
+        assert_eq!(host.token("", &body, clock, random), bad_request("invalid_grant"), "exchanged");
+        // Once the spent code has run out, other codes take its slot and those before it.
+        for other in 0..others {
+            host.authorize(BARNAPP, 1, clock + 600, random + other);
+        }
+        assert!(sample::slots(&host.store).all(|slot| slot.handle != counting(0)));
     }
 }
 

@@ -25,28 +25,29 @@ fn clients() -> Arc<[Client]> {
     clients.into()
 }
 
-/// For each client one slot of each kind, all live, behind slots that are free or have run out.
+/// For each client one slot of each kind, all live, behind slots that are free or have run out. The tokens came from the
+/// spent code.
 fn store() -> Vec<u8> {
     let mut store = sample::empty_store();
     sample::set_latest(&mut store, 1000);
-    let old = Slot { kind: sample::ACCESS, handle: [0xee; 20], client: 0, farm: 1, scope: 1, expiry: NOW };
-    sample::set_slot(&mut store, 2, old);
+    sample::set_slot(&mut store, 2, Slot::of(sample::ACCESS, [0xee; 20], NOW));
     for client in 0..6 {
-        for kind in [sample::CODE, sample::BOUND_CODE, sample::ACCESS, sample::REFRESH] {
-            let handle = std::array::from_fn(|at| client * 40 + kind * 8 + at as u8);
+        for kind in sample::KINDS {
             let scope = [9, 1, 1, 170, 8, 4][usize::from(client)];
-            sample::set_slot(
-                &mut store,
-                place(client, kind),
-                Slot { kind, handle, client, farm: 5, scope, expiry: 1600 },
-            );
+            let origin = handle(client, sample::SPENT);
+            let slot = Slot { client, farm: 5, scope, origin, ..Slot::of(kind, handle(client, kind), 1600) };
+            sample::set_slot(&mut store, place(client, kind), slot.turned(kind));
         }
     }
     store
 }
 
+fn handle(client: u8, kind: u8) -> [u8; 20] {
+    std::array::from_fn(|at| (client * 40 + kind * 8).wrapping_add(at as u8))
+}
+
 fn place(client: u8, kind: u8) -> usize {
-    usize::from(4 + client * 4 + kind)
+    usize::from(4 + client * 5 + kind)
 }
 
 /// Requests with which nothing is wrong.
@@ -96,7 +97,7 @@ fn sound_requests_are_granted() {
     for action in Action::ALL {
         for draft in sound_drafts(action) {
             let after = run_both(&draft.call(), &draft.store);
-            assert_eq!(after.answer.outcome(), Step::Harmless.outcome(&draft), "{}", draft.call());
+            assert_eq!(after.outcome(), Step::Harmless.outcome(&draft), "{}", draft.call());
         }
     }
 }
@@ -110,7 +111,7 @@ fn every_reason_has_its_answer() {
             for fault in faults(action) {
                 let draft = spoiled(&sound, &[&fault], &mut rng);
                 let after = run_both(&draft.call(), &draft.store);
-                let outcome = after.answer.outcome();
+                let outcome = after.outcome();
                 assert_eq!(outcome, fault.step.outcome(&draft), "{}\n{}", fault.reason, draft.call());
                 says_the_error_word(&draft, &fault, &after);
                 outcomes.add(format!("{}: {outcome}", action.name()));
@@ -128,7 +129,8 @@ fn says_the_error_word(draft: &Draft, fault: &Fault, after: &After) {
         return;
     }
     if draft.action != Action::Authorize {
-        let word = outcome.trim_start_matches("400 ").trim_start_matches("401 ").trim_end_matches(", challenge");
+        // Behind the status.
+        let word = outcome.split([' ', ',']).nth(1).expect("an error word");
         assert_eq!(after.text(), format!("{{\"error\":\"{word}\"}}"), "{}", fault.reason);
         return;
     }
@@ -141,7 +143,7 @@ fn says_the_error_word(draft: &Draft, fault: &Fault, after: &After) {
 #[test]
 fn the_first_reason_counts() {
     let mut rng = Rng::new(2);
-    let mut pairs = 0;
+    let (mut pairs, mut clearing) = (0, 0);
     for action in Action::ALL {
         let faults = faults(action);
         for sound in sound_drafts(action) {
@@ -152,14 +154,16 @@ fn the_first_reason_counts() {
                         continue;
                     }
                     let draft = spoiled(&sound, &[one, other], &mut rng);
-                    let outcome = run_both(&draft.call(), &draft.store).answer.outcome();
+                    let after = run_both(&draft.call(), &draft.store);
                     let expected = one.step.min(other.step).outcome(&draft);
-                    assert_eq!(outcome, expected, "{} and {}\n{}", one.reason, other.reason, draft.call());
+                    assert_eq!(after.outcome(), expected, "{} and {}\n{}", one.reason, other.reason, draft.call());
                     pairs += 1;
+                    clearing += usize::from(!after.cleared.is_empty());
                 }
             }
         }
     }
-    println!("{pairs} pairs of reasons");
-    assert!(pairs > 400_000, "only {pairs} pairs");
+    println!("{pairs} pairs of reasons, {clearing} of them clear tokens");
+    assert!(pairs > 450_000, "only {pairs} pairs");
+    assert!(clearing > 1_000, "only {clearing} pairs clear tokens");
 }

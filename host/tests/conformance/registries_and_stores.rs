@@ -5,17 +5,9 @@ use poplarchime_host::sample::{self, Client, Slot};
 
 use crate::support::call::{Call, Request};
 use crate::support::compare::run_both;
-use crate::support::host::{bad_request, counting, redirected, Authorized, Host};
+use crate::support::host::{bad_request, counting, exchange_body, redirected, refresh_body, Authorized, Host};
 
 const LIMIT: u64 = 1 << 40;
-
-fn exchange_body(handle: &[u8; 20]) -> String {
-    format!("grant_type=authorization_code&code={}", sample::hex(handle))
-}
-
-fn refresh_body(handle: &[u8; 20]) -> String {
-    format!("grant_type=refresh_token&refresh_token={}", sample::hex(handle))
-}
 
 fn basic(client: &Client) -> Vec<u8> {
     client.secret.as_ref().map_or(Vec::new(), |secret| sample::basic_header(&client.id, secret))
@@ -96,8 +88,7 @@ fn the_longest_location_fits() {
 #[test]
 fn the_longest_reply_fits() {
     let mut host = Host::visit();
-    let code = Slot { kind: sample::CODE, handle: counting(0), client: 0, farm: 1, scope: 255, expiry: 2000 };
-    host.set_slot(0, code);
+    host.set_slot(0, Slot { scope: 255, ..Slot::of(sample::CODE, counting(0), 2000) });
     let reply = host.token(basic(&sample::visit_clients()[0]), exchange_body(&counting(0)), 1000, 0x20);
     assert!(reply.body.ends_with("\"scope\":\"power peak tariff bill milking drying pump solar\"}"), "{}", reply.body);
 }
@@ -105,7 +96,7 @@ fn the_longest_reply_fits() {
 #[test]
 fn the_lowest_slot_of_a_handle_counts() {
     let mut host = Host::visit();
-    let access = Slot { kind: sample::ACCESS, handle: [7; 20], client: 0, farm: 1, scope: 1, expiry: 2000 };
+    let access = Slot::of(sample::ACCESS, [7; 20], 2000);
     host.set_slot(5, Slot { farm: 5, ..access });
     host.set_slot(3, Slot { farm: 3, scope: 255, client: 1, expiry: 1500, ..access });
     host.set_slot(1, Slot { farm: 1, kind: sample::REFRESH, ..access });
@@ -119,7 +110,7 @@ fn a_slot_that_has_run_out_hides_a_live_one() {
     for kind in [sample::CODE, sample::BOUND_CODE, sample::ACCESS, sample::REFRESH] {
         let client = &sample::visit_clients()[0];
         let redirect = "&redirect_uri=https://client.example.com/cb";
-        let live = Slot { kind, handle: [7; 20], client: 0, farm: 1, scope: 1, expiry: 2000 };
+        let live = Slot::of(kind, [7; 20], 2000);
         let mut host = Host::visit();
         host.set_slot(2, live);
         host.set_slot(1, Slot { expiry: 1000, ..live });
@@ -153,7 +144,7 @@ fn a_slot_that_has_run_out_hides_a_live_one() {
 #[test]
 fn a_strangers_slot_hides_ones_own() {
     let mut host = Host::visit();
-    let own = Slot { kind: sample::CODE, handle: [7; 20], client: 0, farm: 1, scope: 1, expiry: 2000 };
+    let own = Slot::of(sample::CODE, [7; 20], 2000);
     host.set_slot(2, own);
     host.set_slot(1, Slot { client: 1, ..own });
     let header = basic(&sample::visit_clients()[0]);
@@ -166,7 +157,7 @@ fn a_strangers_slot_hides_ones_own() {
 #[test]
 fn codes_of_both_kinds_are_looked_up_together() {
     let mut host = Host::visit();
-    let code = Slot { kind: sample::CODE, handle: [7; 20], client: 0, farm: 1, scope: 1, expiry: 2000 };
+    let code = Slot::of(sample::CODE, [7; 20], 2000);
     host.set_slot(4, code);
     host.set_slot(2, Slot { kind: sample::BOUND_CODE, ..code });
     let header = basic(&sample::visit_clients()[0]);
@@ -179,8 +170,7 @@ fn codes_of_both_kinds_are_looked_up_together() {
 #[test]
 fn the_slots_scope_counts_not_the_clients() {
     let mut host = Host::visit();
-    let refresh = Slot { kind: sample::REFRESH, handle: [7; 20], client: 1, farm: 1, scope: 0xf0, expiry: 2000 };
-    host.set_slot(0, refresh);
+    host.set_slot(0, Slot { client: 1, scope: 0xf0, ..Slot::of(sample::REFRESH, [7; 20], 2000) });
     let body = refresh_body(&[7; 20]) + "&client_id=barnapp";
     assert_eq!(host.token("", format!("{body}&scope=power"), 1000, 0x20), bad_request("invalid_scope"));
     assert_eq!(host.token("", format!("{body}&scope=solar+pump"), 1000, 0x20).status, 200);
@@ -191,7 +181,7 @@ fn the_slots_scope_counts_not_the_clients() {
 fn any_expiry_is_fit() {
     for expiry in [0, 1, LIMIT, LIMIT + 1, u64::MAX] {
         let mut host = Host::visit();
-        host.set_slot(9, Slot { kind: sample::ACCESS, handle: [7; 20], client: 0, farm: 1, scope: 1, expiry });
+        host.set_slot(9, Slot::of(sample::ACCESS, [7; 20], expiry));
         let answer = host.check(sample::hex(&[7; 20]), 1000);
         assert_eq!((answer.refusal, answer.seconds_left), (0, expiry.saturating_sub(1000)));
     }
@@ -214,19 +204,17 @@ fn the_last_second_of_time() {
 }
 
 #[test]
-fn an_exchange_takes_the_lowest_slots_its_own_among_them() {
-    // The code's slot, the lowest other vacant ones, and where access and refresh token land.
-    for (code, vacant, access, refresh) in
-        [(5, [7, 8], 5, 7), (7, [5, 8], 5, 7), (8, [5, 7], 5, 7), (0, [1, 2], 0, 1), (511, [509, 510], 509, 510)]
+fn an_exchange_takes_the_two_lowest_vacant_slots() {
+    // The code's slot, one that has run out, a free one, and where access and refresh token land.
+    for (code, run_out, free, access, refresh) in
+        [(5, 7, 8, 7, 8), (7, 8, 5, 5, 8), (8, 5, 7, 5, 7), (0, 2, 1, 1, 2), (511, 509, 510, 509, 510)]
     {
         let mut host = Host::visit();
-        let live = Slot { kind: sample::REFRESH, handle: [1; 20], client: 1, farm: 1, scope: 1, expiry: 5000 };
-        for number in 0..sample::SLOTS {
-            host.set_slot(number, live);
-        }
-        host.set_slot(vacant[0], Slot { expiry: 1000, ..live });
-        host.set_slot(vacant[1], Slot::default());
-        host.set_slot(code, Slot { kind: sample::CODE, handle: [7; 20], client: 0, farm: 9, scope: 3, expiry: 1001 });
+        let live = Slot { client: 1, ..Slot::of(sample::REFRESH, [1; 20], 5000) };
+        host.set_slots(0..sample::SLOTS, live);
+        host.set_slot(run_out, Slot { expiry: 1000, ..live });
+        host.set_slot(free, Slot::default());
+        host.set_slot(code, Slot { farm: 9, scope: 3, ..Slot::of(sample::CODE, [7; 20], 1001) });
         let reply = host.token(basic(&sample::visit_clients()[0]), exchange_body(&[7; 20]), 1000, 0x20);
         assert_eq!(reply.status, 200);
         assert_eq!((host.slot(access).handle, host.slot(access).kind), (counting(0x20), sample::ACCESS));
@@ -236,30 +224,24 @@ fn an_exchange_takes_the_lowest_slots_its_own_among_them() {
 }
 
 #[test]
-fn a_full_store_has_room_for_an_exchange_only_with_one_more_slot() {
-    for (vacant, status) in [(0, 503), (1, 200)] {
+fn an_exchange_needs_two_vacant_slots_and_a_refresh_one() {
+    for (vacant, exchange, refresh) in [(0, 503, 503), (1, 503, 200), (2, 200, 200)] {
         let mut host = Host::visit();
-        let live = Slot { kind: sample::ACCESS, handle: [1; 20], client: 1, farm: 1, scope: 1, expiry: 1001 };
-        for number in vacant..sample::SLOTS {
-            host.set_slot(number, live);
-        }
-        host.set_slot(200, Slot { kind: sample::CODE, handle: [7; 20], client: 0, ..live });
-        host.set_slot(201, Slot { kind: sample::REFRESH, handle: [8; 20], client: 0, ..live });
+        host.set_slots(vacant..sample::SLOTS, Slot::of(sample::ACCESS, [1; 20], 1001));
+        host.set_slot(200, Slot::of(sample::CODE, [7; 20], 1001));
+        host.set_slot(201, Slot::of(sample::REFRESH, [8; 20], 1001));
         let header = basic(&sample::visit_clients()[0]);
-        let mut refreshing = Host { registry: host.registry.clone(), store: host.store.clone() };
-        assert_eq!(host.token(&header, exchange_body(&[7; 20]), 1000, 0x20).status, status);
-        assert_eq!(refreshing.token(&header, refresh_body(&[8; 20]), 1000, 0x20).status, status);
-        assert_eq!(refreshing.token(&header, refresh_body(&[8; 20]), 1000, 0x60).status, 503, "full now");
+        assert_eq!(host.clone().token(&header, refresh_body(&[8; 20]), 1000, 0x20).status, refresh, "{vacant} vacant");
+        assert_eq!(host.token(&header, exchange_body(&[7; 20]), 1000, 0x20).status, exchange, "{vacant} vacant");
+        let then = if exchange == 200 { 503 } else { refresh };
+        assert_eq!(host.token(&header, refresh_body(&[8; 20]), 1000, 0x60).status, then, "after it");
     }
 }
 
 #[test]
 fn on_a_full_store_clashes_are_not_looked_for() {
     let mut host = Host::visit();
-    let live = Slot { kind: sample::CODE, handle: counting(0), client: 0, farm: 1, scope: 1, expiry: 1001 };
-    for number in 0..sample::SLOTS {
-        host.set_slot(number, live);
-    }
+    host.set_slots(0..sample::SLOTS, Slot::of(sample::CODE, counting(0), 1001));
     let location = "https://barn.example/r?x=1&error=temporarily_unavailable";
     assert_eq!(host.authorize("response_type=code&client_id=barnapp", 1, 1000, 0x00), redirected(location));
     let header = basic(&sample::visit_clients()[0]);

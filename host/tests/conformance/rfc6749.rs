@@ -2,9 +2,8 @@
 
 use poplarchime_host::sample::Client;
 
-use crate::support::host::{bad_request, granted, redirected, unauthorized, Authorized, Host};
+use crate::support::host::{bad_request, granted, redirected, unauthorized, Authorized, Host, BASIC};
 
-const BASIC: &str = "Basic czZCaGRSa3F0MzpnWDFmQmF0M2JW";
 const CODE: &str = "000102030405060708090a0b0c0d0e0f10111213";
 
 /// The client of sections 4 to 6.
@@ -52,6 +51,18 @@ fn section_4_1_authorization_code_grant() {
          &redirect_uri=https%3A%2F%2Fclient%2Eexample%2Ecom%2Fcb";
     assert_eq!(host.token(BASIC, body, 1000, 0x20), bad_request("invalid_grant"));
     assert_eq!(host.token(BASIC, body.replace("SplxlOBeZQQYbYS6WxSbIA", CODE), 1000, 0x20).status, 200);
+}
+
+#[test]
+fn section_4_1_2_a_code_is_used_once() {
+    let mut host = host();
+    host.authorize("response_type=code&client_id=s6BhdRkqt3", 1, 1000, 0);
+    let body = format!("grant_type=authorization_code&code={CODE}");
+    assert_eq!(host.token(BASIC, &body, 1000, 0x20).status, 200);
+    let access = "202122232425262728292a2b2c2d2e2f30313233";
+    assert_eq!(host.check(access, 1000).live, 1);
+    assert_eq!(host.token(BASIC, &body, 1000, 0x60), bad_request("invalid_grant"), "must be denied");
+    assert_eq!(host.check(access, 1000).live, 0, "and what was issued on it revoked");
 }
 
 #[test]

@@ -3,11 +3,10 @@
 use poplarchime_host::answers::CheckAnswer;
 use poplarchime_host::sample::{self, Slot};
 
-use crate::support::host::{bad_request, counting, granted, redirected, unauthorized, Authorized, Host};
+use crate::support::host::{bad_request, counting, granted, redirected, unauthorized, Authorized, Host, BASIC};
 
 const QUERY: &str =
     "response_type=code&client_id=s6BhdRkqt3&state=xyz&redirect_uri=https%3A%2F%2Fclient%2Eexample%2Ecom%2Fcb";
-const BASIC: &str = "Basic czZCaGRSa3F0MzpnWDFmQmF0M2JW";
 const CODE: &str = "000102030405060708090a0b0c0d0e0f10111213";
 const ACCESS: &str = "202122232425262728292a2b2c2d2e2f30313233";
 const REFRESH: &str = "3435363738393a3b3c3d3e3f4041424344454647";
@@ -35,10 +34,9 @@ fn allowed() {
     let mut host = Host::visit();
     let location = format!("https://client.example.com/cb?code={CODE}&state=xyz");
     assert_eq!(host.authorize(QUERY, 1, 1000, 0x00), redirected(&location));
-    let issued = Slot { kind: sample::BOUND_CODE, handle: counting(0), client: 0, farm: 7, scope: 11, expiry: 1600 };
-    assert_eq!(host.slot(0), issued);
+    assert_eq!(host.slot(0), Slot { farm: 7, scope: 11, ..Slot::of(sample::BOUND_CODE, counting(0), 1600) });
     assert_eq!(sample::latest(&host.store), 1000);
-    assert!(host.store[43..].iter().all(|&byte| byte == 0));
+    assert!(host.store[sample::slot_range(1).start..].iter().all(|&byte| byte == 0));
 }
 
 #[test]
@@ -53,11 +51,10 @@ fn denied() {
 fn exchange() {
     let mut host = with_code();
     assert_eq!(host.token(BASIC, EXCHANGE, 1500, 0x20), granted(TOKENS));
-    let access = Slot { kind: sample::ACCESS, handle: counting(0x20), client: 0, farm: 7, scope: 11, expiry: 5100 };
-    assert_eq!(host.slot(0), access);
+    let spent = Slot { farm: 7, scope: 11, ..Slot::of(sample::SPENT, counting(0), 1600) };
+    let access = Slot { kind: sample::ACCESS, handle: counting(0x20), expiry: 5100, origin: counting(0), ..spent };
     let refresh = Slot { kind: sample::REFRESH, handle: counting(0x34), expiry: 2_593_500, ..access };
-    assert_eq!(host.slot(1), refresh);
-    assert_eq!(host.slot(2), Slot::default());
+    assert_eq!([0, 1, 2, 3].map(|number| host.slot(number)), [spent, access, refresh, Slot::default()]);
 }
 
 #[test]
@@ -67,7 +64,7 @@ fn refresh_reply_has_no_refresh_token() {
     let reply = "{\"access_token\":\"505152535455565758595a5b5c5d5e5f60616263\",\"token_type\":\"Bearer\",\
          \"expires_in\":3600,\"scope\":\"power peak bill\"}";
     assert_eq!(host.token(BASIC, &body, 2000, 0x50), granted(reply));
-    assert_eq!(host.slot(1).handle_text(), REFRESH, "the refresh token stays");
+    assert_eq!(host.slot(2).handle_text(), REFRESH, "the refresh token stays");
     let reply = "{\"access_token\":\"808182838485868788898a8b8c8d8e8f90919293\",\"token_type\":\"Bearer\",\
          \"expires_in\":3600,\"scope\":\"power bill\"}";
     assert_eq!(host.token(BASIC, format!("{body}&scope=bill+power"), 2000, 0x80), granted(reply));

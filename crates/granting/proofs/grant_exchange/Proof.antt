@@ -1,19 +1,20 @@
--- The tests come in the order of the plan's reasons. A live code's slot is not counted as room, and is room once it is cleared:
--- one slot besides it is enough for two. Past the tests the code that was found is spent.
+-- The tests come in the order of the plan's reasons. Where no live code of the client's is found, one that is shown again withdraws its
+-- tokens; where one is found, a refusal leaves the slots. Past the tests the code that was found is spent.
 use borrow.Author.Needs.{needs}
-use mathlib.Core.Path.{_≡_, refl, sym, ap, ap₂, _∙_}
+use mathlib.Core.Path.{_≡_, sym, ap, ap₂, _∙_}
 use mathlib.Core.Bool.{not, _&&_}
 use mathlib.Core.List.{List}
 use Prim.Native.Nat.{ℕ}
 use lib.Dec.{leb}
-use Rattle.token_store.specs.Store.{decode, withSlots, freeSlot, isBoundCode}
+use lib.ListN.{set}
+use Rattle.token_store.specs.Store.{decode, withSlots, spentCode, isBoundCode}
 use Rattle.token_store.specs.declared.Slot.{Slot}
 use Rattle.token_store.specs.declared.Sought.the-variants.{Code}
 use Rattle.protocol.specs.declared.Decision.{Decision}
-use Rattle.protocol.specs.Granting.{Plan, firstHandle, secondHandle, shownSlot, room, withoutCode, anyTaken, exchangePlan}
+use Rattle.protocol.specs.Granting.{Plan, firstHandle, secondHandle, shownSlot, room, anyTaken, exchangePlan}
 use Rattle.protocol.proofs.Reasons.{none, stop, pass}
 use Rattle.granting.specs.Granted.{spentOn}
-use Rattle.granting.proofs.Plans.{Own, own-found, own-none, room-without, Past, refuses, grants}
+use Rattle.granting.proofs.Plans.{Own, own-found, own-none, found-keeps, Past, refuses, grants}
 use Rattle.granting.proofs.grant_exchange.Statement.{statement}
 use Rattle.granting.proofs.grant_exchange.Tie as tie
 
@@ -61,6 +62,13 @@ past-address : (c : tie.Else1) {d : Decision} → Past 2 (planAt (looked (found 
 unfolding exchangePlan
 past-address c f = past-own (found (read c)) (pass (missed (read c) ∙ c .if1 .left) f)
 
+-- a refusal leaves the slots
+kept : (c : tie.After-i) → let s = looked c in decode (s .args .store .now) ≡ withSlots (decode (s .args .store .now)) (planAt s .denied)
+unfolding exchangePlan
+kept c =
+    let s = looked c in
+    ap (withSlots (decode (s .args .store .now))) (found-keeps (s .args .t) (s .args .request .client) (s .args .presented) (slotsOf s) (own c .first .some))
+
 -- ---- there is room besides it
 
 abbrev sound : tie.After-has-room → tie.Else1
@@ -71,8 +79,8 @@ begun c = looked (found (read (sound c)))
 
 full : (c : tie.After-has-room)
     → let a = begun c .args in
-    not (leb 2 (room (a .t) (withoutCode (a .presented) (slotsOf (begun c))))) ≡ not (c .has-room .result)
-full c = ap not (room-without (own (found (read (sound c)))) ∙ sym (c .has-room .ensures))
+    not (leb 2 (room (a .t) (slotsOf (begun c)))) ≡ not (c .has-room .result)
+full c = ap not (sym (c .has-room .ensures))
 
 past-room : (c : tie.Else2) {d : Decision} → Past 3 (planAt (begun (c .before))) d
 unfolding exchangePlan
@@ -99,10 +107,13 @@ taken c =
 returns : tie.Need-returns
 unfolding exchangePlan
 returns c =
-    let looked = c .before .before .before in
+    let withdrawn = c .before .before .before in
+    let told = withdrawn .before .before in
+    let looked = told .before .before in
     let a = start looked .args in
-    let nothing = sym (c .before .enum-told .given .1) ∙ looked .find-own .ensures in
-    refuses (stop (ap not (own-none (a .t) (a .request .client) Code (a .presented) (a .store .now) nothing))) (c .refused .ensures) refl
+    let nothing = sym (told .enum-told .given .1) ∙ looked .find-own .ensures in
+    refuses (stop (ap not (own-none (a .t) (a .request .client) Code (a .presented) (a .store .now) nothing))) (c .refused .ensures)
+    (withdrawn .withdraw-shown-again .ensures)
 
 slot-at-requires : tie.Need-slot-at-requires
 slot-at-requires c κs = let at = c .before .before in (looked at .pre .0, own at .first .below)
@@ -111,19 +122,23 @@ returns-2 : tie.Need-returns-2
 unfolding exchangePlan
 returns-2 c =
     let shown = c .before .before .before .before in
-    refuses (past-own (found shown) (stop (missed shown ∙ c .before .if1 .taken))) (c .refused2 .ensures) refl
+    refuses (past-own (found shown) (stop (missed shown ∙ c .before .if1 .taken))) (c .refused2 .ensures) (kept (found shown))
 
 returns-3 : tie.Need-returns-3
 unfolding exchangePlan
 returns-3 c =
     let tested = c .before .before in
-    refuses (past-address (sound tested) (stop (full tested ∙ c .before .if2 .taken))) (c .refused3 .ensures) refl
+    refuses (past-address (sound tested) (stop (full tested ∙ c .before .if2 .taken))) (c .refused3 .ensures) (kept (found (read (sound tested))))
+
+any-clash-requires : tie.Need-any-clash-requires
+any-clash-requires c κs = let roomy = c .before .before .before .before .before in looked (found (read (sound (roomy .before)))) .pre .0
 
 returns-4 : tie.Need-returns-4
 unfolding exchangePlan
 returns-4 c =
     let tested = c .before .before in
-    refuses (past-room (roomy tested) (stop (taken tested ∙ c .before .if3 .taken))) (c .refused4 .ensures) refl
+    let code = found (read (sound (roomy tested .before))) in
+    refuses (past-room (roomy tested) (stop (taken tested ∙ c .before .if3 .taken))) (c .refused4 .ensures) (kept code)
 
 spend-requires : tie.Need-spend-requires
 spend-requires c κs =
@@ -138,12 +153,15 @@ returns-5 c =
     let made = drawn tested in
     let shown = read (sound (roomy tested .before)) in
     let a = looked (found shown) .args in
+    let here : Slot = shownSlot Code (a .presented) (slotsOf (looked (found shown))) in
     grants (past-room (roomy tested) (pass (taken tested ∙ spent .before .before .if3 .left) none))
     (c .issued .ensures ∙ rw (code shown))
     (spent .spend .ensures
-    ∙ λ j. withSlots (decode (a .store .now))
+    ∙ (λ j. withSlots (decode (a .store .now))
     (spentOn (a .t) (made .before .handle-at .ensures j) (made .handle-at2 .ensures j) (code shown j)
-    (sym (own (found shown) .first .replaced freeSlot) j)))
+    (set (slotsOf (looked (found shown))) (found shown .i .given .0 .0) (spentCode (code shown j)))))
+    ∙ ap (λ (l : List Slot). withSlots (decode (a .store .now)) (spentOn (a .t) (firstHandle (a .random .now)) (secondHandle (a .random .now)) here l))
+    (sym (own (found shown) .first .replaced (spentCode here))))
 
 pub grant-exchange-spec : {M : Type 1} → statement M
 grant-exchange-spec =
@@ -152,6 +170,7 @@ grant-exchange-spec =
     (λ c κs. search needs)
     (λ c. search needs)
     (λ c. search needs)
+    (λ c κs. search needs)
     (λ c κs. search needs)
     (λ c. search needs)
     returns
@@ -167,7 +186,7 @@ grant-exchange-spec =
     (λ c κs. search needs)
     (λ c. search needs)
     (λ c. search needs)
-    (λ c κs. search needs)
+    any-clash-requires
     (λ c κs. search needs)
     (λ c. search needs)
     returns-4

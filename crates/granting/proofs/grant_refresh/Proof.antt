@@ -80,17 +80,17 @@ returns-2 c =
     refuses (past-own (found (tested .before)) (stop (fitting tested ∙ c .before .if1 .taken))) (c .refused2 .ensures) refl
 
 grant-access-requires : tie.Need-grant-access-requires
-grant-access-requires c κs = looked (found (read (c .before .before .before .before))) .pre .0
+grant-access-requires c κs = looked (found (read (c .before .before .before .before .before))) .pre .0
 
 returns-3 : tie.Need-returns-3
 unfolding refreshPlan
 returns-3 c =
     let done = c .before .before in
-    let handled = done .before .before .before in
+    let handled = done .before .before .before .before in
     let given = handled .before in
     let asked = looked (found (read (given .before))) in
     follows-later (take 2 (planAt asked .reasons)) (past-scope (given .before) (ends-first _))
-    (rw (done .before .token-on .ensures, handled .handle-at .ensures, given .scope-given .ensures, token (read (given .before))) at (done .grant-access .ensures))
+    (rw (done .before .before .token-on .ensures, handled .handle-at .ensures, given .scope-given .ensures, token (read (given .before))) at (done .grant-access .ensures))
 
 pub grant-refresh-spec : {M : Type 1} → statement M
 grant-refresh-spec =

@@ -1,4 +1,4 @@
--- The code is handed over as it was read, before its slot is cleared; the two issues then see the store without it.
+-- The code is handed over as it was read, before its slot is written; the two issues then see the store with the spent one.
 use borrow.Author.Needs.{needs}
 use mathlib.Core.Path.{_∙_}
 use Rattle.granting.proofs.spend.Statement.{statement}
@@ -8,9 +8,9 @@ returns : tie.Need-returns
 returns c =
     let second = c .before .before in
     let first = second .before .before .before .before .before in
-    let cleared = first .before .before .before .before .before in
+    let kept = first .before .before .before .before .before in
     second .issue2 .ensures
-    ∙ rw (first .issue .ensures, cleared .clear .ensures, first .before .token-on .ensures, second .before .token-on2 .ensures)
+    ∙ rw (first .issue .ensures, kept .put .ensures, first .before .token-on .ensures, second .before .token-on2 .ensures)
 
 pub spend-spec : {M : Type 1} → statement M
 spend-spec =

@@ -1,9 +1,10 @@
 //! Both programs, run on the same call and compared in everything that they answer, write and leave.
 
 use poplarchime_host::program::{Program, EXPORTS, PLAIN};
-use poplarchime_host::sample;
+use poplarchime_host::sample::{self, Slot};
 
 use super::call::{Answer, Call, Request};
+use super::second_showing::{second_showing, without_tokens};
 
 /// What a call answered, wrote and left.
 #[derive(Clone, Debug, PartialEq, Eq)]
@@ -13,9 +14,19 @@ pub struct After {
     pub output: Vec<u8>,
     /// The whole store.
     pub store: Vec<u8>,
+    /// What was in the slots that the call has cleared.
+    pub cleared: Vec<Slot>,
 }
 
 impl After {
+    /// The answer in the papers' words, and whether slots were cleared.
+    pub fn outcome(&self) -> String {
+        match self.cleared.is_empty() {
+            true => self.answer.outcome(),
+            false => format!("{}, tokens cleared", self.answer.outcome()),
+        }
+    }
+
     /// The part of the output that the answer speaks of.
     pub fn text(&self) -> String {
         String::from_utf8(self.output[..self.answer.length()].to_vec()).expect("answers are ASCII")
@@ -51,8 +62,8 @@ impl Guarded {
     }
 }
 
-pub fn run(program: &Program, call: &Call, store: &[u8]) -> After {
-    let mut store = Guarded::new(store);
+pub fn run(program: &Program, call: &Call, before: &[u8]) -> After {
+    let mut store = Guarded::new(before);
     let mut output = Guarded::new(&vec![FILL; call.output]);
     let (registry, clock, random) = (&call.registry[..], call.clock, &call.random[..]);
     let (on, out) = (store.bytes(), output.bytes());
@@ -65,7 +76,21 @@ pub fn run(program: &Program, call: &Call, store: &[u8]) -> After {
         }
         Request::Check { token } => Answer::Check((program.check)(token, registry, on, clock)),
     };
-    After { answer, output: output.take(), store: store.take() }
+    let (output, store) = (output.take(), store.take());
+    let cleared = cleared(before, &store);
+    After { answer, output, store, cleared }
+}
+
+/// The slots that are in use before and free after.
+fn cleared(before: &[u8], after: &[u8]) -> Vec<Slot> {
+    if before == after {
+        return Vec::new();
+    }
+    let slots = sample::slots(before).zip(sample::slots(after));
+    slots
+        .filter(|(before, after)| before.kind != sample::FREE && after.kind == sample::FREE)
+        .map(|slots| slots.0)
+        .collect()
 }
 
 /// Runs the exports and the plain program on the same call and store. They must agree in everything, and keep demand 1.
@@ -85,7 +110,8 @@ pub fn run_both(call: &Call, store: &[u8]) -> After {
     exports
 }
 
-/// Refusals 1 to 4 change nothing at all, later ones nothing but the high-water mark; the output beyond the answer stays.
+/// Refusals 1 to 4 change nothing at all, later ones nothing but the high-water mark; only a second showing of a code
+/// clears the tokens that came from it, too. The output beyond the answer stays.
 pub fn keeps_demand_1(call: &Call, before: &[u8], after: &After) {
     let untouched = &after.output[after.answer.length()..];
     assert!(untouched.iter().all(|&byte| byte == FILL), "output beyond the answer was touched\n{call}");
@@ -95,7 +121,10 @@ pub fn keeps_demand_1(call: &Call, before: &[u8], after: &After) {
     }
     let time = call.clock.max(sample::latest(before));
     assert_eq!(sample::latest(&after.store), time, "the high-water mark is not the time of\n{call}");
-    if !after.answer.issued() {
+    if let Some(code) = second_showing(call, before) {
+        assert_eq!(after.answer.outcome(), "400 invalid_grant", "a code was shown a second time\n{call}");
+        assert!(after.store[8..] == without_tokens(before, &code)[8..], "not just its tokens were cleared\n{call}");
+    } else if !after.answer.issued() {
         assert!(after.store[8..] == before[8..], "a refused or idle call changed a slot\n{call}");
     }
 }

@@ -65,7 +65,7 @@ impl Action {
                 "temporarily_unavailable",
                 "server_error",
             ],
-            Action::Exchange => &["400 invalid_grant"],
+            Action::Exchange => &["400 invalid_grant", "400 invalid_grant, tokens cleared"],
             Action::Refresh => &["400 invalid_grant", "400 invalid_scope"],
             Action::ClientCredentials => &["400 unauthorized_client", "400 invalid_scope"],
             Action::Check => &["not live"],
@@ -283,10 +283,19 @@ impl Draft {
         self.action.presents() && number == self.presented
     }
 
+    /// The number of a slot other than the presented one.
+    pub fn other_slot(&self, rng: &mut Rng) -> usize {
+        (self.presented + rng.between(1, sample::SLOTS - 1)) % sample::SLOTS
+    }
+
+    pub fn set_slot(&mut self, number: usize, slot: Slot) {
+        sample::set_slot(&mut self.store, number, slot);
+    }
+
     pub fn edit_slot(&mut self, number: usize, edit: impl FnOnce(&mut Slot)) {
         let mut slot = sample::slot(&self.store, number);
         edit(&mut slot);
-        sample::set_slot(&mut self.store, number, slot);
+        self.set_slot(number, slot);
     }
 
     /// Credentials of this client as they should be: a header for a confidential one, its id alone for a public one.

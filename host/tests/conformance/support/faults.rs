@@ -14,6 +14,7 @@ mod texts;
 use super::draft::{Action, Draft};
 use super::rng::Rng;
 
+pub use presented::present;
 pub use scope::give_scope;
 
 /// The place of a refusal in the papers' order. Of several faults, the one at the lowest step counts.
@@ -41,6 +42,8 @@ pub enum Step {
     GrantNotForClient,
     Presented,
     Grant,
+    SecondShowing,
+    CodeRedirect,
     TokenScope,
     TokenRoom,
     TokenClash,
@@ -72,7 +75,8 @@ impl Step {
             Step::Authentication => "401 invalid_client",
             Step::GrantType => "400 unsupported_grant_type",
             Step::GrantNotForClient => "400 unauthorized_client",
-            Step::Grant => "400 invalid_grant",
+            Step::Grant | Step::CodeRedirect => "400 invalid_grant",
+            Step::SecondShowing => "400 invalid_grant, tokens cleared",
             Step::TokenScope => "400 invalid_scope",
             Step::TokenRoom => "503",
             Step::TokenClash => "500",
@@ -102,10 +106,10 @@ impl Fault {
 /// Every reason for refusing such a request, and ways of being odd that are no reason.
 pub fn faults(action: Action) -> Vec<Fault> {
     let lists: &[&[Reasons]] = match action {
-        Action::Authorize => &[ANY, ISSUING, AUTHORIZE],
+        Action::Authorize => &[ANY, ISSUING, SINGLE, AUTHORIZE],
         Action::Exchange => &[ANY, ISSUING, GRANT, PRESENTED_GRANT, EXCHANGE],
-        Action::Refresh => &[ANY, ISSUING, GRANT, PRESENTED_GRANT, SINGLE_TOKEN, REFRESH],
-        Action::ClientCredentials => &[ANY, ISSUING, GRANT, SINGLE_TOKEN, CLIENT_CREDENTIALS],
+        Action::Refresh => &[ANY, ISSUING, SINGLE, GRANT, PRESENTED_GRANT, SINGLE_TOKEN, REFRESH],
+        Action::ClientCredentials => &[ANY, ISSUING, SINGLE, GRANT, SINGLE_TOKEN, CLIENT_CREDENTIALS],
         Action::Check => &[ANY, CHECK],
     };
     let mut faults = Vec::new();
@@ -122,7 +126,15 @@ const ANY: &[Reasons] = &[
     (Step::Harmless, buffers::HARMLESS_CLOCK),
 ];
 
-const ISSUING: &[Reasons] = &[(Step::Buffers, buffers::BUFFERS), (Step::Harmless, form::HARMLESS_FORM)];
+const ISSUING: &[Reasons] = &[
+    (Step::Buffers, buffers::BUFFERS),
+    (Step::Harmless, form::HARMLESS_FORM),
+    (Step::Harmless, room::TWO_LEFT),
+    (Step::Harmless, room::HARMLESS_CLASH),
+];
+
+/// Where a single slot is taken.
+const SINGLE: &[Reasons] = &[(Step::Harmless, room::ONE_LEFT)];
 
 const AUTHORIZE: &[Reasons] = &[
     (Step::Query, form::FORM),
@@ -162,7 +174,10 @@ const SINGLE_TOKEN: &[Reasons] =
     &[(Step::TokenScope, scope::SCOPE), (Step::Harmless, scope::HARMLESS_SCOPE), (Step::Harmless, room::SECOND_CLASH)];
 
 const EXCHANGE: &[Reasons] = &[
-    (Step::Grant, grant::CODE_GRANT),
+    (Step::Grant, grant::SPENT),
+    (Step::SecondShowing, grant::SECOND_SHOWING),
+    (Step::CodeRedirect, grant::CODE_REDIRECT),
+    (Step::TokenRoom, room::ONE_LEFT),
     (Step::TokenClash, room::SECOND_CLASH),
     (Step::TokenClash, room::SECOND_PRESENTED_CLASH),
     (Step::Harmless, grant::HARMLESS_EXCHANGE),

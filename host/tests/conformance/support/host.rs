@@ -6,10 +6,14 @@ use poplarchime_host::sample::{self, Client, Slot};
 use super::call::{Answer, Call, Request};
 use super::compare::{run_both, After};
 
+#[derive(Clone)]
 pub struct Host {
     pub registry: Vec<u8>,
     pub store: Vec<u8>,
 }
+
+/// The header of the visit's client 0.
+pub const BASIC: &str = "Basic czZCaGRSa3F0MzpnWDFmQmF0M2JW";
 
 /// Twenty bytes that count up from the first.
 pub fn counting(first: u8) -> [u8; 20] {
@@ -47,6 +51,12 @@ impl Host {
 
     pub fn set_slot(&mut self, number: usize, slot: Slot) {
         sample::set_slot(&mut self.store, number, slot);
+    }
+
+    pub fn set_slots(&mut self, numbers: impl IntoIterator<Item = usize>, slot: Slot) {
+        for number in numbers {
+            self.set_slot(number, slot);
+        }
     }
 
     fn run(&mut self, request: Request, clock: u64, random: &[u8]) -> After {
@@ -107,6 +117,14 @@ impl Host {
         let Answer::Check(answer) = after.answer else { unreachable!() };
         answer
     }
+}
+
+pub fn exchange_body(code: &[u8; 20]) -> String {
+    format!("grant_type=authorization_code&code={}", sample::hex(code))
+}
+
+pub fn refresh_body(token: &[u8; 20]) -> String {
+    format!("grant_type=refresh_token&refresh_token={}", sample::hex(token))
 }
 
 pub fn redirected(location: &str) -> Authorized {

@@ -9,7 +9,7 @@ use poplarchime_host::sample::{self, Client, Slot};
 use super::call::{credentials_in, Call, Request};
 use super::compare::After;
 use super::draft::{Action, Draft};
-use super::faults::{faults, give_scope, Fault, Step};
+use super::faults::{faults, give_scope, present, Fault, Step};
 use super::rng::Rng;
 use super::tally::Tally;
 
@@ -46,8 +46,10 @@ pub struct World {
     /// Odd stores take their handles from here.
     few_handles: Vec<[u8; 20]>,
     faults: [Vec<Fault>; Action::ALL.len()],
-    /// Some of the calls that issued something, to be made again.
-    granted: Vec<(Action, Call)>,
+    /// Some of the calls that changed slots, to be made again.
+    effective: Vec<(Action, Call)>,
+    /// Some of the tokens that second showings have cleared, to be presented.
+    withdrawn: Vec<Slot>,
 }
 
 /// A call, and the store that it is handed. It is the world's own unless a fault needed another.
@@ -62,7 +64,7 @@ pub struct Drawn {
 impl World {
     pub fn new(clients: Vec<Client>, start: Start, rng: &mut Rng) -> World {
         let few_handles = match start {
-            Start::Odd => (0..8).map(|_| rng.handle()).collect(),
+            Start::Odd => [vec![[0; 20]], (0..7).map(|_| rng.handle()).collect()].concat(),
             _ => Vec::new(),
         };
         let mut world = World {
@@ -70,7 +72,8 @@ impl World {
             store: sample::empty_store(),
             few_handles,
             faults: Action::ALL.map(faults),
-            granted: Vec::new(),
+            effective: Vec::new(),
+            withdrawn: Vec::new(),
         };
         world.fill(start, rng);
         world
@@ -92,6 +95,7 @@ impl World {
                 sample::set_slot(&mut self.store, number, slot);
             }
         }
+        self.link_tokens(rng);
         if start == Start::NearlyFull {
             for _ in 0..rng.below(5) {
                 sample::set_slot(&mut self.store, rng.below(sample::SLOTS), Slot::default());
@@ -111,20 +115,33 @@ impl World {
             }
             _ => rng.pick(&[latest + 500, latest + 3_600, latest + 2_592_000]),
         };
-        Slot {
-            kind: rng.between(1, 4) as u8,
+        let slot = Slot {
+            kind: sample::ACCESS,
             handle: self.handle(rng),
             client: rng.below(self.clients.len()) as u8,
             farm: rng.pick(&[0, 1, 7, 0x0102_0304, u32::MAX]),
             scope: rng.between(1, 255) as u8,
             expiry,
-        }
+            origin: self.handle(rng),
+        };
+        slot.turned(rng.pick(&sample::KINDS))
     }
 
     fn handle(&self, rng: &mut Rng) -> [u8; 20] {
         match self.few_handles.is_empty() || rng.chance(20) {
             true => rng.handle(),
             false => rng.pick(&self.few_handles),
+        }
+    }
+
+    /// Lets most tokens in the store come from codes in it.
+    fn link_tokens(&mut self, rng: &mut Rng) {
+        let slots: Vec<Slot> = sample::slots(&self.store).collect();
+        let codes: Vec<&Slot> = slots.iter().filter(|slot| sample::CODES.contains(&slot.kind)).collect();
+        for (number, &token) in slots.iter().enumerate() {
+            if token.is_token() && !codes.is_empty() && rng.chance(80) {
+                sample::set_slot(&mut self.store, number, Slot { origin: rng.pick(&codes).handle, ..token });
+            }
         }
     }
 
@@ -139,7 +156,7 @@ impl World {
 
     /// The next call. Reasons that were put in are counted.
     pub fn draw(&self, rng: &mut Rng, reasons: &mut Tally) -> Drawn {
-        if !self.granted.is_empty() && rng.chance(4) {
+        if !self.effective.is_empty() && rng.chance(4) {
             return self.draw_again(rng, reasons);
         }
         let action = rng.pick(&[
@@ -161,9 +178,9 @@ impl World {
         Drawn { action, call, store: draft.store, sound: sound && !damaged }
     }
 
-    /// A call that was granted, once more: at another time and mostly with other random bytes.
+    /// A call that changed slots, once more: at another time and mostly with other random bytes.
     fn draw_again(&self, rng: &mut Rng, reasons: &mut Tally) -> Drawn {
-        let (action, mut call) = self.granted[rng.below(self.granted.len())].clone();
+        let (action, mut call) = self.effective[rng.below(self.effective.len())].clone();
         call.clock = self.choose_clock(0, rng);
         if rng.chance(90) {
             call.random.fill_with(|| rng.byte());
@@ -175,10 +192,12 @@ impl World {
     /// Takes the store over that a call has left.
     pub fn carry(&mut self, drawn: Drawn, after: After, rng: &mut Rng) {
         self.store = after.store;
-        if after.answer.issued() {
-            self.granted.truncate(20);
-            self.granted.insert(rng.below(self.granted.len() + 1), (drawn.action, drawn.call));
+        if after.answer.issued() || !after.cleared.is_empty() {
+            self.effective.truncate(20);
+            self.effective.insert(rng.below(self.effective.len() + 1), (drawn.action, drawn.call));
         }
+        self.withdrawn.splice(..0, after.cleared).for_each(drop);
+        self.withdrawn.truncate(20);
     }
 
     /// Every reason that `draw` can count.
@@ -202,26 +221,12 @@ impl World {
     fn sound_draft(&self, action: Action, rng: &mut Rng) -> Draft {
         let slot = self.choose_slot(action, rng);
         let clock = self.choose_clock(slot, rng);
-        let mut random = [self.random_for_issue(rng), self.random_for_issue(rng)].concat();
+        let random = [self.random_for_issue(rng), self.random_for_issue(rng)].concat();
         match action {
-            Action::Authorize => {
-                random.truncate(20);
-                let client = rng.below(self.clients.len());
-                let mut draft = Draft::authorize(&self.clients, &self.store, clock, client, random);
-                draft.farm = rng.between(1, u32::MAX as usize) as u32;
-                if rng.chance(40) {
-                    draft.params.push("redirect_uri", &self.clients[client].redirect);
-                }
-                if rng.chance(40) {
-                    give_scope(&mut draft, rng);
-                }
-                if rng.chance(60) {
-                    draft.params.push("state", rng.pick(&["xyz", "a b&c=d%", "~", "100%25"]));
-                }
-                draft
-            }
+            Action::Authorize => self.sound_authorization(clock, &random[..20], rng),
             Action::Exchange | Action::Refresh => {
                 let mut draft = Draft::token(action, &self.clients, &self.store, clock, slot, random);
+                self.present_withdrawn(&mut draft, rng);
                 if rng.chance(5) {
                     draft.authenticate(rng.below(self.clients.len()));
                 }
@@ -235,7 +240,42 @@ impl World {
                 }
                 draft
             }
-            Action::Check => Draft::check(&self.clients, &self.store, clock, slot),
+            Action::Check => {
+                let mut draft = Draft::check(&self.clients, &self.store, clock, slot);
+                self.present_withdrawn(&mut draft, rng);
+                draft
+            }
+        }
+    }
+
+    fn sound_authorization(&self, clock: u64, random: &[u8], rng: &mut Rng) -> Draft {
+        let client = rng.below(self.clients.len());
+        let mut draft = Draft::authorize(&self.clients, &self.store, clock, client, random);
+        draft.farm = rng.between(1, u32::MAX as usize) as u32;
+        if rng.chance(40) {
+            draft.params.push("redirect_uri", &self.clients[client].redirect);
+        }
+        if rng.chance(40) {
+            give_scope(&mut draft, rng);
+        }
+        if rng.chance(60) {
+            draft.params.push("state", rng.pick(&["xyz", "a b&c=d%", "~", "100%25"]));
+        }
+        draft
+    }
+
+    /// Now and then, presents a token that is no longer in the store.
+    fn present_withdrawn(&self, draft: &mut Draft, rng: &mut Rng) {
+        let kind = match draft.action {
+            Action::Check => sample::ACCESS,
+            Action::Refresh => sample::REFRESH,
+            _ => return,
+        };
+        let tokens: Vec<Slot> = self.withdrawn.iter().filter(|token| token.kind == kind).copied().collect();
+        if !tokens.is_empty() && rng.chance(10) {
+            let token = rng.pick(&tokens);
+            present(draft, token.handle_text());
+            draft.authenticate(token.client.into());
         }
     }
 
@@ -248,10 +288,13 @@ impl World {
         rng.pick(&clients)
     }
 
-    /// A slot that holds what the action presents, a live one if there is one; or else any slot.
+    /// A slot that holds what the action presents, a live one if there is one; or else any slot. Some codes are spent,
+    /// and some slots are of any kind.
     fn choose_slot(&self, action: Action, rng: &mut Rng) -> usize {
         let kinds: &[u8] = match action {
             Action::Authorize | Action::ClientCredentials => return 0,
+            _ if rng.chance(2) => &sample::KINDS,
+            Action::Exchange if rng.chance(25) => &[sample::SPENT],
             Action::Exchange => &[sample::CODE, sample::BOUND_CODE],
             Action::Refresh => &[sample::REFRESH],
             Action::Check => &[sample::ACCESS],
@@ -295,6 +338,7 @@ impl World {
     fn random_for_issue(&self, rng: &mut Rng) -> [u8; 20] {
         let slot = sample::slot(&self.store, rng.below(sample::SLOTS));
         match slot.kind != sample::FREE && rng.chance(3) {
+            true if slot.is_token() && rng.chance(50) => slot.origin,
             true => slot.handle,
             false if rng.chance(50) => rng.handle(),
             false => self.handle(rng),

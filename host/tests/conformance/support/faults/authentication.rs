@@ -2,7 +2,6 @@
 
 use poplarchime_host::sample;
 
-use super::room::fill;
 use super::texts::{cut, inside, longer, other_end, repeat};
 use super::Apply;
 use crate::support::draft::{Draft, Header};
@@ -275,6 +274,4 @@ pub const HARMLESS_TOKEN: &[(&str, Apply)] = &[
         let asking = d.asking().clone();
         d.authenticate_in_body(&asking.id, asking.secret.as_deref());
     }),
-    ("one slot left", |d, rng| fill(d, rng, 1)),
-    ("two slots left", |d, rng| fill(d, rng, 2)),
 ];

@@ -2,7 +2,6 @@
 
 use poplarchime_host::plain::scope::ScopeSet;
 
-use super::room::fill;
 use super::texts::{cut, longer, one_less, other_end, repeat};
 use super::Apply;
 use crate::support::draft::Draft;
@@ -112,5 +111,4 @@ pub const HARMLESS_AUTHORIZATION: &[(&str, Apply)] = &[
     ("farm 2^16", |d, _| d.farm = 1 << 16),
     ("farm 2^31", |d, _| d.farm = 1 << 31),
     ("farm 2^32-1", |d, _| d.farm = u32::MAX),
-    ("one slot left", |d, rng| fill(d, rng, 1)),
 ];

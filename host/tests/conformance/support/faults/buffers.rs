@@ -148,19 +148,24 @@ pub const STORE: &[(&str, Apply)] = &[
     ("store cut by a byte", |d, _| shorten(&mut d.store)),
     ("a byte behind the store", |d, _| d.store.push(0)),
     ("no store", |d, _| d.store.clear()),
-    ("a slot too few", |d, _| d.store.truncate(sample::STORE_SIZE - 35)),
+    ("a slot too few", |d, _| d.store.truncate(sample::STORE_SIZE - sample::SLOT_SIZE)),
+    ("store of slots without an origin", |d, _| d.store.truncate(8 + sample::SLOTS * sample::ORIGIN)),
     ("high-water mark above 2^40", |d, _| sample::set_latest(&mut d.store, CLOCK_LIMIT + 1)),
     ("high-water mark of 2^64-1", |d, _| sample::set_latest(&mut d.store, u64::MAX)),
-    ("slot of kind 5", |d, rng| spoil_slot(d, rng, |slot, _| slot.kind = 5)),
+    ("slot of kind 6", |d, rng| spoil_slot(d, rng, |slot, _| *slot = slot.turned(6))),
     ("slot of kind 255", |d, rng| spoil_slot(d, rng, |slot, _| slot.kind = 255)),
     ("slot of a client beyond the registry", |d, rng| spoil_slot(d, rng, |slot, clients| slot.client = clients)),
     ("slot of client 255", |d, rng| spoil_slot(d, rng, |slot, _| slot.client = 255)),
     ("slot with an empty scope set", |d, rng| spoil_slot(d, rng, |slot, _| slot.scope = 0)),
+    ("code with an origin", |d, rng| give_origin(d, rng, sample::CODE)),
+    ("bound code with an origin", |d, rng| give_origin(d, rng, sample::BOUND_CODE)),
+    ("spent code with an origin", |d, rng| give_origin(d, rng, sample::SPENT)),
     ("free slot with a handle", |d, rng| free_but(d, rng, |slot| slot.handle[19] = 1)),
     ("free slot with a client", |d, rng| free_but(d, rng, |slot| slot.client = 1)),
     ("free slot with a farm", |d, rng| free_but(d, rng, |slot| slot.farm = 1)),
     ("free slot with a scope set", |d, rng| free_but(d, rng, |slot| slot.scope = 1)),
     ("free slot with an expiry", |d, rng| free_but(d, rng, |slot| slot.expiry = 1)),
+    ("free slot with an origin", |d, rng| free_but(d, rng, |slot| slot.origin[0] = 1)),
 ];
 
 fn spoil_slot(draft: &mut Draft, rng: &mut Rng, spoil: fn(&mut Slot, u8)) {
@@ -171,6 +176,15 @@ fn spoil_slot(draft: &mut Draft, rng: &mut Rng, spoil: fn(&mut Slot, u8)) {
             *slot = Slot { kind: sample::ACCESS, scope: 1, ..Slot::default() };
         }
         spoil(slot, clients);
+    });
+}
+
+/// Turns a slot into a code that has an origin.
+fn give_origin(draft: &mut Draft, rng: &mut Rng, kind: u8) {
+    let (number, at) = (rng.below(sample::SLOTS), rng.below(20));
+    draft.edit_slot(number, |slot| {
+        *slot = Slot::of(kind, slot.handle, slot.expiry);
+        slot.origin[at] = 1;
     });
 }
 

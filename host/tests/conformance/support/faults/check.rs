@@ -1,8 +1,8 @@
 //! The access token check.
 
-use poplarchime_host::sample::{self, Slot};
+use poplarchime_host::sample;
 
-use super::presented::{hide, present, run_out};
+use super::presented::{expire, hide, present, run_out};
 use super::texts::{other_end, shorten};
 use super::Apply;
 
@@ -22,19 +22,20 @@ pub const TOKEN: &[(&str, Apply)] = &[
     ("token of 5,000 bytes", |d, _| d.token.resize(5000, b'0')),
     ("token run out this second", |d, _| run_out(d, 0)),
     ("token run out long ago", |d, _| run_out(d, 10_000)),
-    ("a code", |d, rng| d.edit_slot(d.presented, |slot| slot.kind = rng.pick(&[sample::CODE, sample::BOUND_CODE]))),
+    ("a code", |d, _| d.edit_slot(d.presented, |slot| *slot = slot.turned(sample::CODE))),
+    ("a bound code", |d, _| d.edit_slot(d.presented, |slot| *slot = slot.turned(sample::BOUND_CODE))),
+    ("a spent code", |d, _| d.edit_slot(d.presented, |slot| *slot = slot.turned(sample::SPENT))),
     ("a refresh token", |d, _| d.edit_slot(d.presented, |slot| slot.kind = sample::REFRESH)),
-    ("a slot that has run out hides it", |d, rng| hide(d, rng, |slot, now, _| slot.expiry = now)),
+    ("a slot that has run out hides it", |d, rng| hide(d, rng, expire)),
 ];
 
 pub const HARMLESS_CHECK: &[(&str, Apply)] = &[
     ("expiry of 2^64-1", |d, _| d.edit_slot(d.presented, |slot| slot.expiry = u64::MAX)),
     ("scope set beyond the client's", |d, _| d.edit_slot(d.presented, |slot| slot.scope = 255)),
-    ("code and refresh token of the same handle", |d, rng| {
+    ("codes and refresh token of the same handle", |d, rng| {
         let held = d.presented_slot();
-        for kind in [sample::CODE, sample::BOUND_CODE, sample::REFRESH] {
-            let other = (d.presented + rng.between(1, sample::SLOTS - 1)) % sample::SLOTS;
-            d.edit_slot(other, |slot| *slot = Slot { kind, ..held });
+        for kind in [sample::CODE, sample::BOUND_CODE, sample::SPENT, sample::REFRESH] {
+            d.set_slot(d.other_slot(rng), held.turned(kind));
         }
     }),
 ];

@@ -1,11 +1,13 @@
 //! The token endpoint: the grants, codes and refresh tokens, and who may use them.
 
-use poplarchime_host::sample;
+use poplarchime_host::sample::{self, Slot};
 
-use super::presented::{hide, present, presented_name, run_out};
+use super::presented::{expire, give_away, hide, present, presented_name, run_out, show_first, spoiled};
+use super::room::time;
 use super::texts::{cut, longer, one_less, other_end};
 use super::Apply;
 use crate::support::draft::{Action, Draft};
+use crate::support::rng::Rng;
 
 pub const GRANT_TYPE: &[(&str, Apply)] = &[
     ("grant_type password", |d, _| spoil_grant_type(d, |_| b"password".into())),
@@ -80,20 +82,88 @@ pub const GRANT: &[(&str, Apply)] = &[
         }
     }),
     ("an access token", |d, _| d.edit_slot(d.presented, |slot| slot.kind = sample::ACCESS)),
-    ("the other kind of handle", |d, _| {
-        let kind = if d.action == Action::Exchange { sample::REFRESH } else { sample::CODE };
-        d.edit_slot(d.presented, |slot| slot.kind = kind);
+    ("the other kind of handle", |d, rng| {
+        let kind = if d.action == Action::Exchange { sample::REFRESH } else { rng.pick(&sample::CODES) };
+        d.edit_slot(d.presented, |slot| *slot = slot.turned(kind));
     }),
-    ("a slot that has run out hides it", |d, rng| hide(d, rng, |slot, now, _| slot.expiry = now)),
-    ("another client's slot hides it", |d, rng| {
-        hide(d, rng, |slot, now, clients| match clients {
-            1 => slot.expiry = now,
-            _ => slot.client = (slot.client + 1) % clients,
+    ("a slot that has run out hides it", |d, rng| hide(d, rng, expire)),
+    ("another client's slot hides it", |d, rng| hide(d, rng, give_away)),
+];
+
+/// Spent codes that are shown to no effect, though there are tokens that came from them.
+pub const SPENT: &[(&str, Apply)] = &[
+    ("spent code, run out this second", |d, rng| {
+        spend(d, rng);
+        d.set_slot(d.presented, spoiled(d, expire));
+    }),
+    ("another client's spent code", |d, rng| {
+        spend(d, rng);
+        d.set_slot(d.presented, spoiled(d, give_away));
+    }),
+    ("spent code behind one that has run out", |d, rng| {
+        spend(d, rng);
+        hide(d, rng, expire);
+    }),
+    ("spent code behind another client's", |d, rng| {
+        spend(d, rng);
+        hide(d, rng, give_away);
+    }),
+    ("spent code and an unspent one that has run out", |d, rng| {
+        spend(d, rng);
+        show_first(d, rng, |slot, now, _| (slot.kind, slot.expiry) = (sample::CODE, now));
+    }),
+    ("spent code and another client's unspent one", |d, rng| {
+        spend(d, rng);
+        show_first(d, rng, |slot, now, clients| {
+            slot.kind = sample::CODE;
+            give_away(slot, now, clients);
         });
+    }),
+    ("spent code and a bound one, no redirect_uri", |d, rng| {
+        spend(d, rng);
+        show_first(d, rng, |slot, _, _| slot.kind = sample::BOUND_CODE);
+        d.params.remove("redirect_uri");
     }),
 ];
 
-pub const CODE_GRANT: &[(&str, Apply)] = &[
+pub const SECOND_SHOWING: &[(&str, Apply)] = &[
+    ("spent code", spend),
+    ("spent code in its last second", |d, rng| {
+        spend(d, rng);
+        d.set_slot(d.presented, spoiled(d, |slot, now, _| slot.expiry = now + 1));
+    }),
+    ("spent code before one that has run out", |d, rng| {
+        spend(d, rng);
+        show_first(d, rng, expire);
+    }),
+    ("spent code before another client's", |d, rng| {
+        spend(d, rng);
+        show_first(d, rng, give_away);
+    }),
+    ("spent code behind tokens of its handle", |d, rng| {
+        spend(d, rng);
+        hide(d, rng, |slot, _, _| slot.kind = sample::ACCESS);
+        hide(d, rng, |slot, _, _| slot.kind = sample::REFRESH);
+    }),
+    ("spent code of the handle of zeros", |d, rng| {
+        d.edit_slot(d.presented, |slot| slot.handle = [0; 20]);
+        present(d, sample::hex(&[0; 20]));
+        spend(d, rng);
+    }),
+];
+
+/// Turns the presented code into a spent one from which tokens came: live and run out, the client's own and others'.
+fn spend(draft: &mut Draft, rng: &mut Rng) {
+    draft.edit_slot(draft.presented, |slot| slot.kind = sample::SPENT);
+    let (origin, now) = (draft.presented_slot().handle, time(draft));
+    for (kind, expiry) in [(sample::ACCESS, now), (sample::ACCESS, now + 1), (sample::REFRESH, u64::MAX)] {
+        let client = rng.below(draft.clients.len()) as u8;
+        let token = Slot { client, origin, ..Slot::of(kind, rng.handle(), expiry) };
+        draft.set_slot(draft.other_slot(rng), token);
+    }
+}
+
+pub const CODE_REDIRECT: &[(&str, Apply)] = &[
     ("bound code, no redirect_uri", |d, _| {
         bind(d);
         d.params.remove("redirect_uri");

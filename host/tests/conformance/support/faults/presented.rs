@@ -1,6 +1,6 @@
 //! The handle that is presented, at the token endpoint and to the check.
 
-use poplarchime_host::sample::{self, Slot};
+use poplarchime_host::sample::Slot;
 
 use super::room::time;
 use super::Apply;
@@ -38,13 +38,42 @@ pub fn run_out(draft: &mut Draft, seconds: u64) {
     }
 }
 
-/// Moves the presented slot behind one with the same handle that is of no use.
-pub fn hide(draft: &mut Draft, rng: &mut Rng, spoil: fn(&mut Slot, u64, u8)) {
-    let (now, clients) = (time(draft), draft.clients.len() as u8);
-    let other = (draft.presented + rng.between(1, sample::SLOTS - 1)) % sample::SLOTS;
+/// Lets a slot run out now.
+pub fn expire(slot: &mut Slot, now: u64, _clients: u8) {
+    slot.expiry = now;
+}
+
+/// Gives a slot to another client; where there is none, lets it run out.
+pub fn give_away(slot: &mut Slot, now: u64, clients: u8) {
+    match clients {
+        1 => expire(slot, now, clients),
+        _ => slot.client = (slot.client + 1) % clients,
+    }
+}
+
+/// The presented slot, spoiled. The time of the call and the number of clients are handed along.
+pub fn spoiled(draft: &Draft, spoil: impl FnOnce(&mut Slot, u64, u8)) -> Slot {
+    let mut slot = draft.presented_slot();
+    spoil(&mut slot, time(draft), draft.clients.len() as u8);
+    slot
+}
+
+/// Moves the presented slot behind a spoiled copy of it.
+pub fn hide(draft: &mut Draft, rng: &mut Rng, spoil: impl FnOnce(&mut Slot, u64, u8)) {
+    let (copy, other) = (spoiled(draft, spoil), draft.other_slot(rng));
+    put_beside(draft, copy, draft.presented.min(other), draft.presented.max(other));
+}
+
+/// Moves the presented slot before a spoiled copy of it.
+pub fn show_first(draft: &mut Draft, rng: &mut Rng, spoil: impl FnOnce(&mut Slot, u64, u8)) {
+    let (copy, other) = (spoiled(draft, spoil), draft.other_slot(rng));
+    put_beside(draft, copy, draft.presented.max(other), draft.presented.min(other));
+}
+
+/// Moves the presented slot, and puts another in a place of its own.
+fn put_beside(draft: &mut Draft, copy: Slot, place: usize, presented: usize) {
     let held = draft.presented_slot();
-    let mut useless = held;
-    spoil(&mut useless, now, clients);
-    sample::set_slot(&mut draft.store, draft.presented.max(other), held);
-    sample::set_slot(&mut draft.store, draft.presented.min(other), useless);
+    draft.set_slot(place, copy);
+    draft.set_slot(presented, held);
+    draft.presented = presented;
 }

@@ -7,9 +7,12 @@ use crate::support::draft::Draft;
 use crate::support::rng::Rng;
 
 pub const ROOM: &[(&str, Apply)] = &[("no slot left", |d, rng| fill(d, rng, 0))];
+pub const ONE_LEFT: &[(&str, Apply)] = &[("one slot left", |d, rng| fill(d, rng, 1))];
+pub const TWO_LEFT: &[(&str, Apply)] = &[("two slots left", |d, rng| fill(d, rng, 2))];
 
 pub const CLASH: &[(&str, Apply)] = &[
-    ("random bytes of a live slot", |d, rng| clash(d, rng, 0)),
+    ("random bytes of a live slot", |d, rng| clash(d, rng, 0, |slot| slot)),
+    ("random bytes of a live spent code", |d, rng| clash(d, rng, 0, |slot| slot.turned(sample::SPENT))),
     ("random bytes of a slot that has run out", |d, rng| clash_with_old(d, rng, sample::SLOTS - 1, 0)),
     ("random bytes of the slot to be taken", |d, rng| {
         let lowest = vacant(d).next().unwrap_or_default();
@@ -17,13 +20,26 @@ pub const CLASH: &[(&str, Apply)] = &[
     }),
 ];
 
+/// Only handles are looked at.
+pub const HARMLESS_CLASH: &[(&str, Apply)] = &[("random bytes of an origin", |d, rng| {
+    for number in 0..sample::SLOTS {
+        let origin = handle_at(d, rng.pick(&[0, d.random.len() - 20]));
+        d.edit_slot(number, |slot| {
+            if slot.is_token() {
+                slot.origin = origin;
+            }
+        });
+    }
+})];
+
 pub const PRESENTED_CLASH: &[(&str, Apply)] = &[("random bytes of the presented slot", |d, _| {
     d.random.splice(..20, d.presented_slot().handle).for_each(drop);
 })];
 
 /// Only where two tokens are issued; else the last random bytes are ignored.
 pub const SECOND_CLASH: &[(&str, Apply)] = &[
-    ("last random bytes of a live slot", |d, rng| clash(d, rng, 20)),
+    ("last random bytes of a live slot", |d, rng| clash(d, rng, 20, |slot| slot)),
+    ("last random bytes of a live spent code", |d, rng| clash(d, rng, 20, |slot| slot.turned(sample::SPENT))),
     ("last random bytes of a slot that has run out", |d, rng| clash_with_old(d, rng, sample::SLOTS - 1, 20)),
     ("first and last random bytes equal", |d, _| d.random.copy_within(..20, 20)),
 ];
@@ -48,13 +64,13 @@ pub fn fill(draft: &mut Draft, rng: &mut Rng, left: usize) {
     let vacant: Vec<usize> = vacant(draft).collect();
     let expiry = time(draft) + 1;
     for &number in &vacant[..vacant.len().saturating_sub(left)] {
-        let (kind, handle) = (rng.between(1, 4) as u8, rng.handle());
-        sample::set_slot(&mut draft.store, number, Slot { kind, handle, client: 0, farm: 1, scope: 1, expiry });
+        let slot = Slot::of(rng.pick(&sample::KINDS), rng.handle(), expiry);
+        draft.set_slot(number, slot);
     }
 }
 
-/// Gives the random bytes from `half` on to a live slot, other than the presented one.
-pub fn clash(draft: &mut Draft, rng: &mut Rng, half: usize) {
+/// Gives the random bytes from `half` on to a live slot, other than the presented one, and turns it into another.
+fn clash(draft: &mut Draft, rng: &mut Rng, half: usize, turn: fn(Slot) -> Slot) {
     let now = time(draft);
     let live: Vec<usize> = sample::slots(&draft.store)
         .enumerate()
@@ -63,26 +79,16 @@ pub fn clash(draft: &mut Draft, rng: &mut Rng, half: usize) {
         .collect();
     let handle = handle_at(draft, half);
     match live.is_empty() {
-        true => {
-            let slot = Slot { kind: sample::ACCESS, handle, client: 0, farm: 1, scope: 1, expiry: now + 1 };
-            sample::set_slot(&mut draft.store, sample::SLOTS - 1, slot);
-        }
-        false => draft.edit_slot(rng.pick(&live), |slot| slot.handle = handle),
+        true => draft.set_slot(sample::SLOTS - 1, turn(Slot::of(sample::ACCESS, handle, now + 1))),
+        false => draft.edit_slot(rng.pick(&live), |slot| *slot = Slot { handle, ..turn(*slot) }),
     }
 }
 
 /// Puts a slot that has run out, with the random bytes from `half` on, in the place of another.
 fn clash_with_old(draft: &mut Draft, rng: &mut Rng, number: usize, half: usize) {
     let number = if draft.presents(number) { (number + 1) % sample::SLOTS } else { number };
-    let slot = Slot {
-        kind: rng.between(1, 4) as u8,
-        handle: handle_at(draft, half),
-        client: 0,
-        farm: 0,
-        scope: 1,
-        expiry: time(draft),
-    };
-    sample::set_slot(&mut draft.store, number, slot);
+    let slot = Slot::of(rng.pick(&sample::KINDS), handle_at(draft, half), time(draft));
+    draft.set_slot(number, slot);
 }
 
 fn handle_at(draft: &Draft, half: usize) -> [u8; 20] {

@@ -1,0 +1,16 @@
+-- What the claims look at in a store's bytes: whether a slot holds a token that came from a code.
+use Prim.Native.Nat.{ℕ}
+use mathlib.Core.Bool.{Bool, _&&_, _||_}
+use mathlib.Core.List.{List}
+use lib.Dec.{eqb}
+use Rattle.octets.specs.Lists.{same}
+use Rattle.encoding.specs.Hex.{readHandle}
+use Rattle.token_store.specs.Store.{decodeSlot}
+
+-- "A presented handle is 40 lower-case hex digits; any other text matches no slot."
+abbrev pub isTextOf : List ℕ → List ℕ → Bool
+isTextOf text handle = let shown = readHandle text in shown .valid && same (shown .bytes) handle
+
+-- by a slot's bytes: "3 access; 4 refresh", and the origin is the code of this text
+abbrev pub holdsTokenFrom : List ℕ → List ℕ → Bool
+holdsTokenFrom text slot = let s = decodeSlot slot in (eqb (s .kind) 3 || eqb (s .kind) 4) && isTextOf text (s .origin)
