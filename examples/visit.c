@@ -385,6 +385,31 @@ static void secret_with_a_percent_sign(struct host *host)
             ONE_TOKEN(LATER_ACCESS, "drying"));
 }
 
+/* A state of 64 plain bytes, which is read at a go. */
+#define LONG_STATE "0123456789abcdefghijklmnopqrstuvwxyzABCDEFGHIJKLMNOPQRSTUVWXYZ-."
+/* https://client.example.com/cb with each byte escaped. */
+#define ESCAPED_REDIRECT \
+    "%68%74%74%70%73%3a%2f%2f%63%6c%69%65%6e%74" \
+    "%2e%65%78%61%6d%70%6c%65%2e%63%6f%6d%2f%63%62"
+
+static void values_in_any_writing(struct host *host)
+{
+    start(host);
+    title("Nearly all values are plain: they are read at a go, and a state comes back as it was sent");
+    redirects(host, "response_type=code&client_id=barnapp&state=" LONG_STATE, POPLARCHIME_ALLOW, 1000, 0x00,
+              POPLARCHIME_NO_ERROR, "https://barn.example/r?x=1&code=" CODE "&state=" LONG_STATE);
+    title("With spaces and a percent sign between two stretches it is read the same way");
+    redirects(host, "response_type=code&client_id=barnapp&state=" LONG_STATE "+100%25+" LONG_STATE, POPLARCHIME_ALLOW,
+              1000, 0x60, POPLARCHIME_NO_ERROR,
+              "https://barn.example/r?x=1&code=" NEXT_CODE "&state=" LONG_STATE "+100%25+" LONG_STATE);
+    start(host);
+    title("A redirect may be written as it stands, or with each byte escaped: it is the registered one");
+    redirects(host, "response_type=code&client_id=s6BhdRkqt3&redirect_uri=https://client.example.com/cb",
+              POPLARCHIME_ALLOW, 1000, 0x00, POPLARCHIME_NO_ERROR, "https://client.example.com/cb?code=" CODE);
+    redirects(host, "response_type=code&client_id=s6BhdRkqt3&redirect_uri=" ESCAPED_REDIRECT, POPLARCHIME_ALLOW, 1000,
+              0x60, POPLARCHIME_NO_ERROR, "https://client.example.com/cb?code=" NEXT_CODE);
+}
+
 static void bad_requests(struct host *host)
 {
     start(host);
@@ -451,6 +476,7 @@ int main(void)
     code_shown_twice(&host);
     client_for_itself(&host);
     secret_with_a_percent_sign(&host);
+    values_in_any_writing(&host);
     bad_requests(&host);
     bad_hosts(&host);
     printf("\n%d passed, %d failed\n", passed, failed);

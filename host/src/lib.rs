@@ -2,6 +2,9 @@
 
 pub mod answers;
 pub mod ffi;
+pub mod measuring;
 pub mod plain;
+#[cfg(feature = "former")]
+pub mod probe;
 pub mod program;
 pub mod sample;

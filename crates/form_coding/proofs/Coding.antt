@@ -13,20 +13,20 @@ use mathlib.Core.Bool.{Bool, true, false, cond, not, _&&_, _||_, and-assoc, and-
 use native.Mathlib.Nat.{not-suc-le-zero, add-zero}
 use native.Mathlib.Numerals.{add-one}
 use native.Mathlib.Omega.{arith}
-use borrow.Author.Tests.{eq-eqb, ne-eqb, ltb-true, ltb-false, leb-true, leb-false}
+use borrow.Author.Tests.{eq-eqb, ne-eqb, ltb-true, leb-true, leb-false}
 use lib.Dec.{leb, ltb, eqb}
 use lib.ListN.{getD, length, drop, length-drop, drop-of-length-le}
-use lib.Seq.{drop-cons, drop-drop, getD-drop}
+use lib.Seq.{drop-cons, getD-drop}
 use Rattle.octets.specs.Lists.{same}
 use Rattle.octets.proofs.Booleans.{by-test, cond-of, and-left, and-right}
 use Rattle.encoding.specs.Hex.{hexValue, hexDigit}
 use Rattle.form_coding.specs.declared.Symbol.{Symbol}
-use Rattle.form_coding.specs.Coding.{isEscape, plain, firstByte, extra, decodeAfter, decode, symbolOf, sound, wellFormed, isKept, encodeByte, encode, isAt}
+use Rattle.form_coding.specs.Coding.{isEscape, plain, firstByte, extra, decodeAfter, decode, symbolOf, sound, wellFormed, isKept, encodeByte, encode}
 
 -- ---- an escape at an index, by cases
 
 module _ (v : List ℕ) (i : ℕ) where
-  escape-at : isEscape (drop i v) ≡ (eqb (getD v i 0) 37 && (ltb (hexValue true (getD v (i + 1) 0)) 16 && ltb (hexValue true (getD v (i + 2) 0)) 16))
+  pub escape-at : isEscape (drop i v) ≡ (eqb (getD v i 0) 37 && (ltb (hexValue true (getD v (i + 1) 0)) 16 && ltb (hexValue true (getD v (i + 2) 0)) 16))
   unfolding isEscape
   escape-at = simp (getD-drop, add-zero)
 
@@ -72,14 +72,13 @@ module _ (v : List ℕ) (i : ℕ) where
   unfolding symbolOf extra
   symbol-escape e = rw (first-at, e)
 
-  module _ (e : isEscape (drop i v) ≡ false) where
-    pub symbol-space : getD v i 0 ≡ 43 → symbolOf (drop i v) ≡ record { byte = 32; width = 1 }
-    unfolding symbolOf extra plain
-    symbol-space h = rw (first-at, e, eq-eqb (getD v i 0) 43 h)
+  pub symbol-space : getD v i 0 ≡ 43 → symbolOf (drop i v) ≡ record { byte = 32; width = 1 }
+  unfolding symbolOf extra plain
+  symbol-space h = rw (first-at, sym (escape-other v i (λ e. absurd (omega arith))), eq-eqb (getD v i 0) 43 h)
 
-    pub symbol-itself : (getD v i 0 ≡ 43 → ⊥) → symbolOf (drop i v) ≡ record { byte = getD v i 0; width = 1 }
-    unfolding symbolOf extra plain
-    symbol-itself h = rw (first-at, e, ne-eqb (getD v i 0) 43 h)
+  pub symbol-itself : isEscape (drop i v) ≡ false → (getD v i 0 ≡ 43 → ⊥) → symbolOf (drop i v) ≡ record { byte = getD v i 0; width = 1 }
+  unfolding symbolOf extra plain
+  symbol-itself e h = rw (first-at, e, ne-eqb (getD v i 0) 43 h)
 
 -- ---- widths
 
@@ -123,15 +122,8 @@ module _ (v : List ℕ) (i : ℕ) (h : i < length v) where
     unfolding symbolOf
     width-of = ap (λ (s : Symbol). s .width) e
 
-    byte-of : s .byte ≡ firstByte (drop i v)
-    unfolding symbolOf
-    byte-of = ap (λ (s : Symbol). s .byte) e
-
     pub width-fits : (0 < s .width) × (i + s .width ≤ length v)
     width-fits = let w = width-of in let f = simp length-drop at (extra-le (drop i v) some) in (omega arith, omega arith)
-
-    pub decode-step : decode (drop i v) ≡ s .byte ∷ decode (drop (i + s .width) v)
-    decode-step = decode-some (drop i v) some ∙ rw (drop-drop, ← width-of, ← byte-of)
 
   pub well-step : wellFormed (drop i v) ≡ (sound (drop i v) && wellFormed (drop (i + 1) v))
   unfolding wellFormed
@@ -165,28 +157,14 @@ module _ (ok : Bool) (v : List ℕ) (i : ℕ) where
   pub well-done : length v ≤ i → (ok && wellFormed (drop i v)) ≡ ok
   well-done h = rw (well-end v i h) (and-true ok)
 
--- a list that is not empty, against the bytes e from index k on: past their end there is none to equal
-same-cons : (x : ℕ) (xs e : List ℕ) (k : ℕ) → same (x ∷ xs) (drop k e) ≡ (isAt e k x && same xs (drop (k + 1) e))
-unfolding same
-same-cons x xs e k =
-    by-test (ltb k (length e)) (λ f. let h = ltb-true k (length e) f in rw (f, add-one, drop-cons e k 0 h))
-    (λ f. let h = ltb-false k (length e) f in rw (f, drop-of-length-le e h))
-
 same-nil : (e : List ℕ) (k : ℕ) → same [] (drop k e) ≡ leb (length e) k
 unfolding same
 same-nil e k =
     by-test (leb (length e) k) (λ f. let h = leb-true (length e) k f in rw (f, drop-of-length-le e h))
     (λ f. let h = leb-false (length e) k f in rw (f, drop-cons e k 0 h))
 
-module _ (ok : Bool) (v : List ℕ) (i : ℕ) (e : List ℕ) (k : ℕ) where
-  pub same-more : (h : i < length v) {s : Symbol} → s ≡ symbolOf (drop i v)
-      → ((ok && isAt e k (s .byte)) && same (decode (drop (i + s .width) v)) (drop (k + 1) e)) ≡ (ok && same (decode (drop i v)) (drop k e))
-  same-more h {s} f =
-      let rest : List ℕ = decode (drop (i + s .width) v) in
-      and-assoc ok (isAt e k (s .byte)) (same rest (drop (k + 1) e)) ∙ rw (decode-step v i h f, same-cons (s .byte) rest e k)
-
-  pub same-done : length v ≤ i → (ok && leb (length e) k) ≡ (ok && same (decode (drop i v)) (drop k e))
-  same-done h = rw (decode-end v i h, same-nil e k)
+pub compare-done : (ok : Bool) (v : List ℕ) (i : ℕ) (e : List ℕ) (k : ℕ) → length v ≤ i → (ok && leb (length e) k) ≡ (ok && same (decode (drop i v)) (drop k e))
+compare-done ok v i e k h = rw (decode-end v i h, same-nil e k)
 
 -- ---- a byte that is written, by cases
 

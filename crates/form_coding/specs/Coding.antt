@@ -8,7 +8,7 @@ use Prim.Native.Nat.{ℕ, zero, suc, _+_, _*_, _/_, _%_}
 use mathlib.Core.List.{List, [], _∷_, _++_}
 use mathlib.Core.Bool.{Bool, true, cond, not, _&&_, _||_}
 use lib.Dec.{leb, ltb, eqb}
-use lib.ListN.{getD, length}
+use lib.ListN.{getD}
 use Rattle.octets.specs.Lists.{every}
 use Rattle.encoding.specs.Hex.{hexValue, hexDigit}
 use Rattle.form_coding.specs.declared.Symbol.{Symbol}
@@ -65,10 +65,6 @@ encodeByte b = cond (isKept b) (b ∷ []) (cond (eqb b 32) (43 ∷ []) (37 ∷ h
 unfoldable pub encode : List ℕ → List ℕ
 encode [] = []
 encode (b ∷ t) = encodeByte b ++ encode t
-
--- the byte b stands at index k of the list
-abbrev pub isAt : List ℕ → ℕ → ℕ → Bool
-isAt l k b = ltb k (length l) && eqb b (getD l k 0)
 
 -- no byte of the list is x
 abbrev pub lacks : ℕ → List ℕ → Bool

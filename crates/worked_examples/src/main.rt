@@ -9,6 +9,7 @@
 //   handle TEXT                                 whether a text is a handle
 //   octets HEX                                  bytes as a handle's are written, and as the writer of forms writes them
 //   written TEXT                                a text as the writer of forms writes it
+//   decode VALUE                                what a value of a form decodes to, and in how many turns
 //   form NAME FORM                              what a form says of a name
 //   scope VALUE                                 what a scope value says, coded as in a form
 //   new                                         a token store with nothing in it
@@ -176,6 +177,17 @@ fn decoded(value: &[u8]) {
     }
     let n = form_coding::decode_into(value, &mut out);
     found(first(&out, n));
+}
+
+fn decoded_in_turns(value: &[u8]) {
+    let mut out = [0u8; MOST_TEXT];
+    if MOST_TEXT < value.len() {
+        return;
+    }
+    let d = form_coding::decode_in_turns(value, &mut out);
+    say_number(b"turns ", d.turns as u64);
+    say(b" ");
+    found(first(&out, d.length));
 }
 
 fn place_says(s: &[u8], place: Place) {
@@ -391,6 +403,7 @@ fn run(command: u8, args: &[u8], registry: &[u8], store: &mut [u8]) {
         b'a' => authorize(args, registry, store),
         b'b' => base64(args),
         b'c' => check(args, registry, store),
+        b'd' => decoded_in_turns(args),
         b'f' => form_says(args),
         b'h' => handle(args),
         b'n' => octets::clear_at(store, 0, store.len()),

@@ -1,10 +1,11 @@
 //! How long the exported endpoints take, next to the plain program: `cargo run --offline --release --bin benchmark`.
 //!
-//! Both are measured in one process, turn and turn about, so that a busy machine slows both alike; the ratio is what counts.
+//! The ratio is what counts: a busy machine slows both alike.
 
 use std::hint::black_box;
 use std::time::Instant;
 
+use poplarchime_host::measuring::medians;
 use poplarchime_host::program::{Program, EXPORTS, PLAIN};
 use poplarchime_host::sample::{self, Client, Slot};
 
@@ -92,22 +93,11 @@ fn measure(cases: &[Case]) -> Vec<(f64, f64)> {
         let answered = cases[turn.0].call(turn.1, &mut store.clone(), &mut output);
         assert!(answered, "'{}' is not answered as it should be", cases[turn.0].name);
     }
-    let mut times = vec![Vec::new(); turns.len()];
-    for round in 0..ROUNDS {
-        for step in 0..turns.len() {
-            // Each round begins one turn further on.
-            let turn = (round + step) % turns.len();
-            let (number, program) = turns[turn];
-            times[turn].push(cases[number].time(program, &mut stores[turn], &mut output));
-        }
-    }
-    times.chunks(2).map(|pair| (median(&pair[0]), median(&pair[1]))).collect()
-}
-
-fn median(times: &[f64]) -> f64 {
-    let mut sorted = times.to_vec();
-    sorted.sort_by(f64::total_cmp);
-    sorted[sorted.len() / 2]
+    let times = medians(ROUNDS, turns.len(), |turn| {
+        let (number, program) = turns[turn];
+        cases[number].time(program, &mut stores[turn], &mut output)
+    });
+    times.chunks(2).map(|pair| (pair[0], pair[1])).collect()
 }
 
 // ---- registries and stores

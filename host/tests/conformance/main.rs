@@ -13,4 +13,5 @@ mod refusals;
 mod registries_and_stores;
 mod rfc6749;
 mod spent_codes;
+mod stretches;
 mod visit;

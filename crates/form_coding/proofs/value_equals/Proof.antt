@@ -1,6 +1,6 @@
--- The symbols so far are the first bytes of e, and the rest decodes to the rest of e, just where v decodes to e.
+-- The turns so far are the first bytes of e, and the rest decodes to the rest of e, just where v decodes to e.
 use borrow.Author.Needs.{needs}
-use Prim.Native.Nat.{ℕ, _+_, _-_, _<_, _≤_}
+use Prim.Native.Nat.{ℕ, _-_, _≤_}
 use mathlib.Core.Path.{_≡_, _∙_}
 use mathlib.Core.Bool.{_&&_}
 use mathlib.Core.List.{List}
@@ -8,7 +8,8 @@ use native.Mathlib.Omega.{arith}
 use lib.ListN.{length, drop}
 use Rattle.octets.specs.Lists.{same}
 use Rattle.form_coding.specs.Coding.{decode}
-use Rattle.form_coding.proofs.Coding.{width-fits, same-more, same-done}
+use Rattle.form_coding.proofs.Coding.{compare-done}
+use Rattle.form_coding.proofs.Turns.{TurnFits, turn-within, compare-more}
 use Rattle.form_coding.proofs.value_equals.Statement.{statement}
 use Rattle.form_coding.proofs.value_equals.Tie as tie
 
@@ -18,41 +19,32 @@ Inv-loop v e ok₀ i₀ k₀ ok i k = (i ≤ length v) × (k ≤ i) × ((ok && s
 abbrev μ-loop : tie.MeasureT-loop
 μ-loop v e ok₀ i₀ k₀ ok i k = length v - i
 
--- the text, seen from the loop's head
-abbrev textOf : tie.At-loop Inv-loop μ-loop → List ℕ
-textOf c = c .before .before .before .args .v .now
+-- the value, seen from the loop's head
+abbrev valueOf : tie.At-loop Inv-loop μ-loop → List ℕ
+valueOf c = c .before .before .before .args .v .now
 
--- the symbol at i, which is not empty and stands within v
-width : (c : tie.After-symbol-at Inv-loop μ-loop)
-    → (0 < c .symbol-at .result .width) × (c .before .before .loop .i + c .symbol-at .result .width ≤ length (textOf (c .before .before)))
-width c = width-fits (textOf (c .before .before)) (c .before .before .loop .i) (c .before .loop-test .taken) (c .symbol-at .ensures)
+within : (c : tie.In-loop Inv-loop μ-loop) → TurnFits (valueOf (c .before)) (c .before .loop .i)
+within c = turn-within (valueOf (c .before)) (c .before .loop .i) (c .loop-test .taken)
+
+loop-less : tie.Need-loop-less Inv-loop μ-loop
+loop-less c = let t = c .before in let p = t .compare-turn .ensures .0 in omega (arith, p .0, within (t .before))
 
 loop-again : tie.Need-loop-again Inv-loop μ-loop
 loop-again c =
-    let read = c .before .before in
-    let w = width read in
-    let head = read .before .before in
+    let t = c .before in
+    let head = t .before .before in
     let l = head .loop in
-    let e = head .before .before .before .args .e .now in
-    let more = same-more (l .ok) (textOf head) (l .i) e (l .k) (read .before .loop-test .taken) (read .symbol-at .ensures) in
-    (omega arith, omega arith, rw (c .before .is-at .ensures) (more ∙ l .inv .2))
+    let p = t .compare-turn .ensures .0 in
+    let w = within (t .before) in
+    let more = compare-more (l .ok) (valueOf head) (l .i) (head .before .before .before .args .e .now) (l .k) (t .before .loop-test .taken) in
+    (omega (arith, p .0, w), omega (arith, p .0, p .1, w), rw (t .compare-turn .ensures .1, p .0, p .1) (more ∙ l .inv .2))
 
 returns : tie.Need-returns Inv-loop μ-loop
 returns c =
     let l = c .before .loop in
-    same-done (l .ok) (textOf (c .before)) (l .i) (c .before .before .before .before .args .e .now) (l .k) (c .loop-test .left) ∙ l .inv .2
+    compare-done (l .ok) (valueOf (c .before)) (l .i) (c .before .before .before .before .args .e .now) (l .k) (c .loop-test .left) ∙ l .inv .2
 
 pub value-equals-spec : {M : Type 1} → statement M
 value-equals-spec =
     tie.close
-    (tie.spec
-    Inv-loop
-    μ-loop
-    (λ c. search needs)
-    (λ c κs. search needs)
-    (λ c κs. search needs)
-    (λ c. omega (arith, width (c .before .before)))
-    (λ c. search needs)
-    (λ c. omega (arith, width (c .before .before)))
-    loop-again
-    returns)
+    (tie.spec Inv-loop μ-loop (λ c. search needs) (λ c κs. search needs) loop-less loop-again returns)

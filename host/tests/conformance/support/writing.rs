@@ -29,6 +29,19 @@ pub fn usual(bytes: &[u8]) -> Vec<u8> {
     text
 }
 
+/// As the server writes it in its answers.
+pub fn answered(bytes: &[u8]) -> String {
+    let mut text = String::new();
+    for &byte in bytes {
+        match byte {
+            b' ' => text.push('+'),
+            _ if byte.is_ascii_alphanumeric() || b"-._*".contains(&byte) => text.push(byte.into()),
+            _ => text.push_str(&format!("%{byte:02X}")),
+        }
+    }
+    text
+}
+
 /// Nothing is escaped but what must be.
 pub fn sparse(bytes: &[u8], escaped: &[u8]) -> Vec<u8> {
     let mut text = Vec::new();
