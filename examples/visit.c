@@ -1,6 +1,7 @@
 /*
- * A host in C that plays the papers' visit from end to end: two apps ask for a farm's readings. Then a thief and an app
- * show the same code, a server asks for its own readings, and an app has a secret that must be coded before it is sent.
+ * A host in C that plays the papers' visit from end to end: two apps ask for a farm's readings. Then a phone app
+ * without a secret shows that a code is its own, a thief and an app show the same code, a server asks for its own
+ * readings, and an app has a secret that must be coded before it is sent.
  *
  * It shows each request and answer, and holds each answer to what the papers say. The last line is
  * 'N passed, M failed', and the exit status is 0 only if M is 0. `examples/run` builds and runs it.
@@ -227,6 +228,8 @@ static void is_not_live(struct host *host, const char *token, uint64_t clock)
 #define REFRESH "3435363738393a3b3c3d3e3f4041424344454647"
 #define LATER_ACCESS "505152535455565758595a5b5c5d5e5f60616263"
 #define NEXT_CODE "606162636465666768696a6b6c6d6e6f70717273"
+#define NEXT_ACCESS "808182838485868788898a8b8c8d8e8f90919293"
+#define NEXT_REFRESH "9495969798999a9b9c9d9e9fa0a1a2a3a4a5a6a7"
 #define EXCHANGE_OF(code) \
     "grant_type=authorization_code&code=" code "&redirect_uri=https%3A%2F%2Fclient%2Eexample%2Ecom%2Fcb"
 #define EXCHANGE EXCHANGE_OF(CODE)
@@ -281,8 +284,13 @@ static void time_that_never_goes_back(struct host *host)
     replies(host, BASIC, EXCHANGE_OF(NEXT_CODE), 2200, 0x20, 400, 0, INVALID_GRANT);
 }
 
-#define BARN_QUERY "response_type=code&client_id=barnapp"
-#define BARN_EXCHANGE_OF(code) "grant_type=authorization_code&code=" code "&client_id=barnapp"
+/* A verifier, and its SHA-256 in base64url (RFC 7636 Appendix B). A real app makes up another one each time. */
+#define VERIFIER "dBjftJeZ4CVP-mB92K27uhbUJU1p1r_wW1gFWFOEjXk"
+#define CHALLENGE "E9Melhoa2OwvFrEMTJguCHaoeK1t8URWbuGJSstw-cM"
+#define BARN_QUERY_WITHOUT_CHALLENGE "response_type=code&client_id=barnapp"
+#define BARN_QUERY BARN_QUERY_WITHOUT_CHALLENGE "&code_challenge=" CHALLENGE "&code_challenge_method=S256"
+#define BARN_EXCHANGE_WITHOUT_VERIFIER(code) "grant_type=authorization_code&code=" code "&client_id=barnapp"
+#define BARN_EXCHANGE_OF(code) BARN_EXCHANGE_WITHOUT_VERIFIER(code) "&code_verifier=" VERIFIER
 #define BARN_EXCHANGE BARN_EXCHANGE_OF(CODE)
 
 static void public_client(struct host *host)
@@ -297,22 +305,51 @@ static void public_client(struct host *host)
     replies(host, BASIC, "grant_type=authorization_code&code=" CODE, 1000, 0x20, 400, 0, INVALID_GRANT);
     title("A header is not for public clients");
     replies(host, "Basic YmFybmFwcDo=", "grant_type=authorization_code&code=" CODE, 1000, 0x20, 401, 1, INVALID_CLIENT);
-    title("It names itself in the body");
+    title("It names itself in the body, and brings its verifier");
     replies(host, "", BARN_EXCHANGE, 1000, 0x20, 200, 0, TOKENS_FOR("power"));
     is_live(host, ACCESS, 1000, 1, 1, 3600);
 }
 
+static void phone_app_without_a_secret(struct host *host)
+{
+    start(host);
+    title("A phone app can keep no secret. For each visit it makes up a verifier, and sends its digest, the challenge");
+    redirects(host, BARN_QUERY, POPLARCHIME_ALLOW, 1000, 0x00, POPLARCHIME_NO_ERROR,
+              "https://barn.example/r?x=1&code=" CODE);
+    struct host before = *host;
+    title("A thief catches the code on its way. He can name the app, but he has no verifier ...");
+    replies(host, "", BARN_EXCHANGE_WITHOUT_VERIFIER(CODE), 1000, 0x20, 400, 0, INVALID_GRANT);
+    title("... and if he saw the challenge, it does not help him: a digest does not tell what it was made from");
+    replies(host, "", BARN_EXCHANGE_WITHOUT_VERIFIER(CODE) "&code_verifier=" CHALLENGE, 1000, 0x20, 400, 0,
+            INVALID_GRANT);
+    printf("   and the store is as it was: nothing is spent\n");
+    judge(memcmp(host->store, before.store, sizeof host->store) == 0, "an untouched store");
+    title("The app brings its verifier, and gets the tokens");
+    replies(host, "", BARN_EXCHANGE, 1000, 0x20, 200, 0, TOKENS_FOR("power"));
+    is_live(host, ACCESS, 1000, 1, 1, 3600);
+    title("A public client must send a challenge, and its method must be S256");
+    redirects(host, BARN_QUERY_WITHOUT_CHALLENGE, POPLARCHIME_ALLOW, 1000, 0x60, POPLARCHIME_INVALID_REQUEST,
+              "https://barn.example/r?x=1&error=invalid_request");
+    redirects(host, BARN_QUERY_WITHOUT_CHALLENGE "&code_challenge=" VERIFIER "&code_challenge_method=plain",
+              POPLARCHIME_ALLOW, 1000, 0x60, POPLARCHIME_INVALID_REQUEST,
+              "https://barn.example/r?x=1&error=invalid_request");
+    title("A client with a secret may send one too, and is then held to it");
+    redirects(host, QUERY "&code_challenge=" CHALLENGE "&code_challenge_method=S256", POPLARCHIME_ALLOW, 1000, 0x60,
+              POPLARCHIME_NO_ERROR, "https://client.example.com/cb?code=" NEXT_CODE "&state=xyz");
+    replies(host, BASIC, EXCHANGE_OF(NEXT_CODE), 1000, 0x80, 400, 0, INVALID_GRANT);
+    replies(host, BASIC, EXCHANGE_OF(NEXT_CODE) "&code_verifier=" VERIFIER, 1000, 0x80, 200, 0,
+            TOKENS(NEXT_ACCESS, NEXT_REFRESH, "power peak bill"));
+}
+
 #define BARN_REFRESH "grant_type=refresh_token&refresh_token=" REFRESH "&client_id=barnapp"
-#define NEXT_ACCESS "808182838485868788898a8b8c8d8e8f90919293"
-#define NEXT_REFRESH "9495969798999a9b9c9d9e9fa0a1a2a3a4a5a6a7"
 
 static void code_shown_twice(struct host *host)
 {
     start(host);
-    title("The owner allows the public client, and a thief catches the code on its way");
+    title("The owner allows the public client, and a thief on the phone itself reads both the code and the verifier");
     redirects(host, BARN_QUERY, POPLARCHIME_ALLOW, 1000, 0x00, POPLARCHIME_NO_ERROR,
               "https://barn.example/r?x=1&code=" CODE);
-    title("The thief is first: anybody can name a public client, so he gets its tokens, and refreshes at once");
+    title("The thief is first: he has all that the app has, so he gets its tokens, and refreshes at once");
     replies(host, "", BARN_EXCHANGE, 1001, 0x20, 200, 0, TOKENS_FOR("power"));
     replies(host, "", BARN_REFRESH, 1001, 0x50, 200, 0, ONE_TOKEN(LATER_ACCESS, "power"));
     is_live(host, ACCESS, 1001, 1, 1, 3600);
@@ -396,11 +433,11 @@ static void values_in_any_writing(struct host *host)
 {
     start(host);
     title("Nearly all values are plain: they are read at a go, and a state comes back as it was sent");
-    redirects(host, "response_type=code&client_id=barnapp&state=" LONG_STATE, POPLARCHIME_ALLOW, 1000, 0x00,
-              POPLARCHIME_NO_ERROR, "https://barn.example/r?x=1&code=" CODE "&state=" LONG_STATE);
+    redirects(host, BARN_QUERY "&state=" LONG_STATE, POPLARCHIME_ALLOW, 1000, 0x00, POPLARCHIME_NO_ERROR,
+              "https://barn.example/r?x=1&code=" CODE "&state=" LONG_STATE);
     title("With spaces and a percent sign between two stretches it is read the same way");
-    redirects(host, "response_type=code&client_id=barnapp&state=" LONG_STATE "+100%25+" LONG_STATE, POPLARCHIME_ALLOW,
-              1000, 0x60, POPLARCHIME_NO_ERROR,
+    redirects(host, BARN_QUERY "&state=" LONG_STATE "+100%25+" LONG_STATE, POPLARCHIME_ALLOW, 1000, 0x60,
+              POPLARCHIME_NO_ERROR,
               "https://barn.example/r?x=1&code=" NEXT_CODE "&state=" LONG_STATE "+100%25+" LONG_STATE);
     start(host);
     title("A redirect may be written as it stands, or with each byte escaped: it is the registered one");
@@ -458,6 +495,9 @@ static void bad_hosts(struct host *host)
     refuses("a store from before version 0.4.0, of 17,928 bytes",
             poplarchime_check(NULL, 0, host->registry, host->registry_length, host->store, 17928, 1000).refusal,
             POPLARCHIME_REFUSED_STORE);
+    refuses("a store from before version 0.5.0, of 28,168 bytes",
+            poplarchime_check(NULL, 0, host->registry, host->registry_length, host->store, 28168, 1000).refusal,
+            POPLARCHIME_REFUSED_STORE);
     refuses("a clock beyond 2^40",
             poplarchime_check(NULL, 0, host->registry, host->registry_length, host->store, sizeof host->store,
                               POPLARCHIME_CLOCK_LIMIT + 1).refusal,
@@ -473,6 +513,7 @@ int main(void)
     confidential_client(&host);
     time_that_never_goes_back(&host);
     public_client(&host);
+    phone_app_without_a_secret(&host);
     code_shown_twice(&host);
     client_for_itself(&host);
     secret_with_a_percent_sign(&host);

@@ -1,5 +1,6 @@
 /*
- * Poplarchime: the core of an OAuth 2.0 authorization server (RFC 6749), proved in Rattle and exported to C.
+ * Poplarchime: the core of an OAuth 2.0 authorization server (RFC 6749, and PKCE, RFC 7636), proved in Rattle and
+ * exported to C.
  *
  * Three functions: the authorization endpoint, the token endpoint, and the check of an access token. They keep no
  * state of their own, allocate nothing, do no input or output and always return. All they know is in the buffers that
@@ -29,7 +30,7 @@
  * The version of this interface and of the archive that goes with it. Where the second number moves, a host may have to
  * change: docs/changes/ says what moved.
  */
-#define POPLARCHIME_VERSION "0.4.0"
+#define POPLARCHIME_VERSION "0.5.0"
 
 #ifdef __cplusplus
 extern "C" {
@@ -38,12 +39,12 @@ extern "C" {
 /* ---- Sizes, in bytes unless they say otherwise ---- */
 
 /*
- * The token store: a time of 8, then the slots. A fresh store is all zero. A store from before version 0.4.0 has another
+ * The token store: a time of 8, then the slots. A fresh store is all zero. A store from before version 0.5.0 has another
  * size and is refused: start from a fresh one.
  */
-#define POPLARCHIME_STORE_SIZE 28168
+#define POPLARCHIME_STORE_SIZE 34312
 #define POPLARCHIME_STORE_SLOTS 512
-#define POPLARCHIME_SLOT_SIZE 55
+#define POPLARCHIME_SLOT_SIZE 67
 
 /*
  * The client registry: 1 to 64 records, one after the other and nothing behind the last one. A client's number is its
@@ -191,6 +192,9 @@ struct poplarchime_check_answer {
  * The authorization endpoint, response type `code`. Call it once the owner has logged in and decided; `farm` is what he
  * allows. Farm 0 is no owner's, so a decision for it is denied. `query` is the query of the request without its `?`.
  * `output` receives the location.
+ *
+ * A client may send `code_challenge` with `code_challenge_method=S256` (RFC 7636); a public one must, else the answer
+ * is `invalid_request`. The code is then good only together with the verifier that the challenge was made from.
  */
 struct poplarchime_authorization poplarchime_authorize(
     const uint8_t *query, size_t query_length,
@@ -207,6 +211,9 @@ struct poplarchime_authorization poplarchime_authorize(
  * the value of the Authorization field, of length 0 when there was none; in it the client has form-coded its id and its
  * secret before base64 (RFC 6749 section 2.3.1), so that a secret `a%b` comes as `a%25b`. `body` is the form in the
  * request's body. `output` receives the reply's body.
+ *
+ * A code that was asked for with a challenge is exchanged only with its `code_verifier` (RFC 7636): one that is
+ * missing, malformed or another is `invalid_grant`, and the code stays good.
  *
  * A code that was exchanged has leaked when its client shows it again before it would have run out (section 4.1.2): the
  * answer is `invalid_grant`, and every token that came from the code, by a refresh too, is withdrawn.

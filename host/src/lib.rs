@@ -1,6 +1,7 @@
 //! The host's side of Poplarchime: the exported endpoints, and a plain second program to hold them to.
 
 pub mod answers;
+pub mod digest_probe;
 pub mod ffi;
 pub mod measuring;
 pub mod plain;

@@ -64,11 +64,13 @@ pub fn crowd(clients: usize) -> Vec<Client> {
     (0..clients).map(client).collect()
 }
 
-pub const STORE_SIZE: usize = 28_168;
+pub const STORE_SIZE: usize = 34_312;
 pub const SLOTS: usize = 512;
-pub const SLOT_SIZE: usize = 55;
-/// Where the origin begins in a slot.
+pub const SLOT_SIZE: usize = 67;
+/// Where the origin or the challenge begins in a slot.
 pub const ORIGIN: usize = 35;
+/// Where the bytes behind an origin begin.
+pub const BEHIND_ORIGIN: usize = 55;
 
 // The kinds of a slot.
 pub const FREE: u8 = 0;
@@ -77,10 +79,15 @@ pub const BOUND_CODE: u8 = 2;
 pub const ACCESS: u8 = 3;
 pub const REFRESH: u8 = 4;
 pub const SPENT: u8 = 5;
+pub const CHALLENGED_CODE: u8 = 6;
+pub const BOUND_CHALLENGED_CODE: u8 = 7;
 /// The kinds of a slot in use.
-pub const KINDS: [u8; 5] = [CODE, BOUND_CODE, ACCESS, REFRESH, SPENT];
-/// Those that hold zeros where the others hold an origin.
-pub const CODES: [u8; 3] = [CODE, BOUND_CODE, SPENT];
+pub const KINDS: [u8; 7] = [CODE, BOUND_CODE, ACCESS, REFRESH, SPENT, CHALLENGED_CODE, BOUND_CHALLENGED_CODE];
+pub const CODES: [u8; 5] = [CODE, BOUND_CODE, SPENT, CHALLENGED_CODE, BOUND_CHALLENGED_CODE];
+/// The codes that can be exchanged.
+pub const UNSPENT: [u8; 4] = [CODE, BOUND_CODE, CHALLENGED_CODE, BOUND_CHALLENGED_CODE];
+/// Those that hold zeros where others hold an origin or a challenge.
+pub const ZERO_ENDED: [u8; 3] = [CODE, BOUND_CODE, SPENT];
 
 /// What a slot holds. A free one holds nothing but zeros.
 #[derive(Clone, Copy, Debug, Default, PartialEq, Eq)]
@@ -91,20 +98,52 @@ pub struct Slot {
     pub farm: u32,
     pub scope: u8,
     pub expiry: u64,
-    /// The code that a token came from; zeros in a code.
+    /// The code that a token came from; the first bytes of a challenge; zeros in other codes.
     pub origin: [u8; 20],
+    /// The other bytes of a challenge; zeros in all else.
+    pub behind_origin: [u8; 12],
 }
 
 impl Slot {
-    /// A slot of client 0 for farm 1 and the scope `power`, without an origin.
+    /// A slot of client 0 for farm 1 and the scope `power`, without an origin, and with a challenge of zeros.
     pub fn of(kind: u8, handle: [u8; 20], expiry: u64) -> Slot {
-        Slot { kind, handle, client: 0, farm: 1, scope: 1, expiry, origin: [0; 20] }
+        Slot { kind, handle, client: 0, farm: 1, scope: 1, expiry, ..Slot::default() }
     }
 
-    /// The same as a slot of another kind: a code loses its origin.
+    /// The same as a slot of another kind: it loses what that kind does not hold.
     pub fn turned(self, kind: u8) -> Slot {
-        let origin = if CODES.contains(&kind) { [0; 20] } else { self.origin };
-        Slot { kind, origin, ..self }
+        let origin = if ZERO_ENDED.contains(&kind) { [0; 20] } else { self.origin };
+        let behind_origin = if has_challenge(kind) { self.behind_origin } else { [0; 12] };
+        Slot { kind, origin, behind_origin, ..self }
+    }
+
+    /// The same code, to be exchanged with or without redirect_uri.
+    pub fn bound(self, bound: bool) -> Slot {
+        self.turned(code_kind(bound, self.has_challenge()))
+    }
+
+    /// The same code with this challenge, bound if it was.
+    pub fn challenged(self, challenge: [u8; 32]) -> Slot {
+        let (origin, behind_origin) = challenge.split_at(20);
+        Slot {
+            kind: code_kind(self.is_bound(), true),
+            origin: origin.try_into().expect("twenty bytes"),
+            behind_origin: behind_origin.try_into().expect("twelve bytes"),
+            ..self
+        }
+    }
+
+    pub fn is_bound(&self) -> bool {
+        self.kind == BOUND_CODE || self.kind == BOUND_CHALLENGED_CODE
+    }
+
+    pub fn has_challenge(&self) -> bool {
+        has_challenge(self.kind)
+    }
+
+    /// The last bytes of the slot, which are the challenge of a code that has one.
+    pub fn challenge(&self) -> [u8; 32] {
+        [&self.origin[..], &self.behind_origin].concat().try_into().expect("32 bytes")
     }
 
     pub fn is_token(&self) -> bool {
@@ -118,6 +157,20 @@ impl Slot {
     /// The handle as it is shown to the outside.
     pub fn handle_text(&self) -> String {
         hex(&self.handle)
+    }
+}
+
+fn has_challenge(kind: u8) -> bool {
+    kind == CHALLENGED_CODE || kind == BOUND_CHALLENGED_CODE
+}
+
+/// The kind of a code that was asked for with or without redirect_uri and challenge.
+pub fn code_kind(bound: bool, challenged: bool) -> u8 {
+    match (bound, challenged) {
+        (false, false) => CODE,
+        (true, false) => BOUND_CODE,
+        (false, true) => CHALLENGED_CODE,
+        (true, true) => BOUND_CHALLENGED_CODE,
     }
 }
 
@@ -142,7 +195,8 @@ pub fn slot(store: &[u8], number: usize) -> Slot {
         farm: u32::from_be_bytes(bytes[22..26].try_into().expect("four bytes")),
         scope: bytes[26],
         expiry: u64::from_be_bytes(bytes[27..ORIGIN].try_into().expect("eight bytes")),
-        origin: bytes[ORIGIN..].try_into().expect("twenty bytes"),
+        origin: bytes[ORIGIN..BEHIND_ORIGIN].try_into().expect("twenty bytes"),
+        behind_origin: bytes[BEHIND_ORIGIN..].try_into().expect("twelve bytes"),
     }
 }
 
@@ -154,7 +208,8 @@ pub fn set_slot(store: &mut [u8], number: usize, slot: Slot) {
     bytes[22..26].copy_from_slice(&slot.farm.to_be_bytes());
     bytes[26] = slot.scope;
     bytes[27..ORIGIN].copy_from_slice(&slot.expiry.to_be_bytes());
-    bytes[ORIGIN..].copy_from_slice(&slot.origin);
+    bytes[ORIGIN..BEHIND_ORIGIN].copy_from_slice(&slot.origin);
+    bytes[BEHIND_ORIGIN..].copy_from_slice(&slot.behind_origin);
 }
 
 pub fn slots(store: &[u8]) -> impl Iterator<Item = Slot> + '_ {
@@ -197,6 +252,11 @@ pub fn base64(bytes: &[u8]) -> String {
     text
 }
 
+/// Base64url without padding (RFC 4648 section 5).
+pub fn base64url(bytes: &[u8]) -> String {
+    base64(bytes).trim_end_matches('=').replace('+', "-").replace('/', "_")
+}
+
 #[cfg(test)]
 mod tests {
     use super::*;
@@ -212,10 +272,15 @@ mod tests {
     #[test]
     fn a_slot_reads_back() {
         let mut store = empty_store();
-        let entry = Slot { kind: ACCESS, handle: [7; 20], client: 1, farm: 2, scope: 3, expiry: 4, origin: [5; 20] };
+        let entry = Slot { client: 1, farm: 2, scope: 3, origin: [5; 20], ..Slot::of(ACCESS, [7; 20], 4) };
         set_slot(&mut store, 511, entry);
         assert_eq!(slot(&store, 511), entry);
         assert_eq!(store.iter().filter(|&&byte| byte != 0).count(), 1 + 20 + 4 + 20);
+        let code = entry.turned(BOUND_CODE).challenged([6; 32]);
+        set_slot(&mut store, 511, code);
+        assert_eq!(slot(&store, 511), code);
+        assert_eq!((code.kind, code.challenge()), (BOUND_CHALLENGED_CODE, [6; 32]));
+        assert_eq!(store.iter().filter(|&&byte| byte != 0).count(), 1 + 20 + 4 + 32);
     }
 
     #[test]
@@ -223,5 +288,6 @@ mod tests {
         assert_eq!(basic_header(b"s6BhdRkqt3", b"gX1fBat3bV"), b"Basic czZCaGRSa3F0MzpnWDFmQmF0M2JW");
         assert_eq!(base64(b"f"), "Zg==");
         assert_eq!(base64(b"fo"), "Zm8=");
+        assert_eq!(base64url(&[0xfb, 0xff, 0xbf, 0xff]), "-_-__w");
     }
 }

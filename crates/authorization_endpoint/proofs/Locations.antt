@@ -19,17 +19,19 @@ use Rattle.client_registry.specs.declared.Entry.{Entry}
 use Rattle.client_registry.proofs.Clients.{fit-client}
 use Rattle.client_registry.proofs.Fields.{redirect-text}
 use Rattle.token_store.specs.Store.{Store}
+use Rattle.token_store.specs.declared.Slot.{Slot}
 use Rattle.protocol.specs.declared.Decision.{Decision}
 use Rattle.protocol.specs.declared.Decision.the-variants.{Grant, Refuse}
 use Rattle.protocol.specs.declared.AuthorizationAnswer.{AuthorizationAnswer}
 use Rattle.protocol.specs.declared.PageCause.{PageCause}
 use Rattle.protocol.specs.declared.Refusal.the-variants.{ErrorPage}
-use Rattle.protocol.specs.declared.Request.the-variants.{Code}
+use Rattle.protocol.specs.declared.Request.{Request}
+use Rattle.protocol.specs.declared.Request.the-variants.{Refused}
 use Rattle.protocol.specs.declared.Reading.{Reading}
 use Rattle.protocol.specs.Limits.{codeRandom}
 use Rattle.protocol.specs.Refusals.{firstOf}
-use Rattle.protocol.specs.Requests.{noHandle, unlessRefused, refusedReading}
-use Rattle.protocol.specs.Authorization.{queryClient, codeAsked, pageReasons, redirectReasons, readAuthorization, locationText}
+use Rattle.protocol.specs.Requests.{unlessRefused}
+use Rattle.protocol.specs.Authorization.{queryClient, pageReasons, redirectReasons, codeReading, readAuthorization, locationText}
 use Rattle.protocol.specs.Granting.{planOf, decisionOn, refusedPlan, planFor, slotsBy}
 use Rattle.protocol.specs.Outcomes.{serveAuthorization}
 use Rattle.admission.specs.Entering.{Serves}
@@ -38,7 +40,7 @@ use Rattle.granting.specs.Granted.{randomNeeded, Follows}
 use Rattle.granting.proofs.Plans.{follows-decision}
 use Rattle.authorization_query.specs.declared.ClientQuery.{ClientQuery}
 use Rattle.authorization_query.specs.Reading.{Known}
-use Rattle.authorization_endpoint.specs.Locations.{locationFor, answered}
+use Rattle.authorization_endpoint.specs.Locations.{locationFor, readingWith, answered}
 
 -- ---- a query asks for a code or for nothing: one handle is enough
 
@@ -48,28 +50,35 @@ unfolding readAuthorization unlessRefused
 query-random clients query decision farm =
     by (firstOf (pageReasons clients query ++ redirectReasons (clientAt clients (queryClient clients query)) query decision farm))
   where
-    asked : Reading
-    asked = record { request = Code (codeAsked clients query farm); presented = noHandle }
-
-    by : (d : Decision) → randomNeeded (unlessRefused d asked .request) ≤ codeRandom
+    by : (d : Decision) → randomNeeded (unlessRefused d (codeReading clients query farm) .request) ≤ codeRandom
     by Grant = omega arith
     by (Refuse refusal) = omega arith
 
 -- ---- a call is served as its query was read
 
+-- the challenge of a request that is refused is not looked at
+same-plan : (clients : List Client) (query : List ℕ) (farm t : ℕ) (slots : List Slot) (random : List ℕ) (d : Decision)
+    → let reading = unlessRefused d (codeReading clients query farm) in
+    planOf t slots random (readingWith query (reading .request)) ≡ planOf t slots random reading
+unfolding unlessRefused planFor
+same-plan clients query farm t slots random Grant = refl
+same-plan clients query farm t slots random (Refuse refusal) = refl
+
 module _ (clients : List Client) (query : List ℕ) (decision farm t : ℕ) (random : List ℕ)
     {before after : Store} {out written : List ℕ} {r : AuthorizationAnswer} where
-  pub reading-served : (reading : Reading) → reading ≡ readAuthorization clients query decision farm
-      → Serves (answered clients query reading t (before .slots) random) before after out written r
+  pub reading-served : (request : Request) → request ≡ readAuthorization clients query decision farm .request
+      → Serves (answered clients query (readingWith query request) t (before .slots) random) before after out written r
       → Serves (serveAuthorization query decision farm clients t (before .slots) random) before after out written r
-  unfolding serveAuthorization
-  reading-served reading e s = rw e at s
+  unfolding serveAuthorization readAuthorization
+  reading-served request e s =
+      let rs = pageReasons clients query ++ redirectReasons (clientAt clients (queryClient clients query)) query decision farm in
+      rw (e, same-plan clients query farm t (before .slots) random (firstOf rs)) at s
 
 -- ---- an error page: nothing is written, and no slot changes
 
 module _ (clients : List Client) (query : List ℕ) (t : ℕ) (random : List ℕ) (before : Store) where
   pub page-served : (cause : PageCause) (output : List ℕ)
-      → Serves (answered clients query (refusedReading (ErrorPage cause)) t (before .slots) random) before before output output
+      → Serves (answered clients query (readingWith query (Refused (ErrorPage cause))) t (before .slots) random) before before output output
       (record { decision = Refuse (ErrorPage cause); length = 0 })
   unfolding planFor refusedPlan firstOf slotsBy locationText
   page-served cause output = record { answer = refl; text = refl; store = refl }

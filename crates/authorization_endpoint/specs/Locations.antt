@@ -12,7 +12,9 @@ use Rattle.token_store.specs.declared.Slot.{Slot}
 use Rattle.protocol.specs.declared.AuthorizationAnswer.{AuthorizationAnswer}
 use Rattle.protocol.specs.declared.Decision.{Decision}
 use Rattle.protocol.specs.declared.Reading.{Reading}
-use Rattle.protocol.specs.Authorization.{queryClient, locationText}
+use Rattle.protocol.specs.declared.Request.{Request}
+use Rattle.protocol.specs.Requests.{noHandle}
+use Rattle.protocol.specs.Authorization.{queryClient, challengeGiven, locationText}
 use Rattle.protocol.specs.Granting.{firstHandle, planOf, decisionOn, slotsAfter}
 use Rattle.protocol.specs.Outcomes.{Served}
 
@@ -20,6 +22,14 @@ use Rattle.protocol.specs.Outcomes.{Served}
 abbrev pub locationFor : List Client → List ℕ → List ℕ → Decision → List ℕ
 locationFor clients query random decided =
     locationText (clientAt clients (queryClient clients query) .redirect) (formValue query (bytes "state")) (firstHandle random) decided
+
+-- a request with the challenge that its query gives. What is granted to one that is refused does not depend on it
+abbrev pub readingWith : List ℕ → Request → Reading
+readingWith query request = record {
+  request = request;
+  presented = noHandle;
+  challenge = challengeGiven (formValue query (bytes "code_challenge"));
+}
 
 abbrev pub answered : List Client → List ℕ → Reading → ℕ → List Slot → List ℕ → Served AuthorizationAnswer
 answered clients query reading t slots random =

@@ -18,12 +18,11 @@ ghost use lib.ListN.{length};
 ghost use Rattle.client_registry.specs.Registry.{clientsOf};
 ghost use Rattle.token_store.specs.Store.{decode};
 ghost use Rattle.protocol.specs.Limits.{leastOutput, codeRandom};
-ghost use Rattle.protocol.specs.Requests.{noHandle};
 ghost use Rattle.protocol.specs.Outcomes.{serveAuthorization, authorizationOutcome};
 ghost use Rattle.admission.specs.Entering.{Ready, Serves};
 ghost use Rattle.granting.specs.Granted.{randomNeeded};
 ghost use Rattle.authorization_query.specs.Reading.{Known};
-ghost use Rattle.authorization_endpoint.specs.Locations.{answered};
+ghost use Rattle.authorization_endpoint.specs.Locations.{readingWith, answered};
 
 // Answers the query of a known client: the location leads to its registered address.
 fn answer(
@@ -38,7 +37,7 @@ fn answer(
     requires { ⌜ Ready (now registry) (now store) t × Known (now registry) (now query) asking
         × (randomNeeded (asking .request) ≤ codeRandom) × (length (now random) ≡ codeRandom) × (leastOutput ≤ length (now output)) ⌝ }
     ensures { λ r. ⌜ Serves
-        (answered (clientsOf (now (registry .entry))) (now (query .entry)) (record { request = asking .request; presented = noHandle }) t
+        (answered (clientsOf (now (registry .entry))) (now (query .entry)) (readingWith (now (query .entry)) (asking .request)) t
         (decode (now (store .entry)) .slots) (now (random .entry)))
         (decode (now (store .entry))) (decode (now (store .exit))) (now (output .entry)) (now (output .exit)) r ⌝ }
 {
@@ -49,7 +48,18 @@ fn answer(
         valid: false,
         bytes: [0u8; HANDLE_SIZE],
     };
-    let granted = granting::grant(store, t, random, Reading { request, presented });
+    let given = asking.challenge;
+    let challenge = parameters::challenge_given(query, given);
+    let granted = granting::grant(
+        store,
+        t,
+        random,
+        Reading {
+            request,
+            presented,
+            challenge,
+        },
+    );
     let decision = granted.decision;
     let redirect = client_registry::redirect(registry, client);
     let length = authorization_location::write_location(

@@ -22,15 +22,12 @@ use Rattle.client_registry.specs.declared.FoundClient.the-variants.{At, Unknown
 use Rattle.client_registry.proofs.Lookup.{empty-unknown, find-at, find-unknown}
 use Rattle.protocol.specs.declared.Decision.{Decision}
 use Rattle.protocol.specs.declared.Decision.the-variants.{Grant, Refuse}
-use Rattle.protocol.specs.declared.CodeRequest.{CodeRequest}
 use Rattle.protocol.specs.declared.PageCause.{PageCause}
 use Rattle.protocol.specs.declared.Refusal.the-variants.{ErrorPage as PageRefusal}
-use Rattle.protocol.specs.declared.Request.{Request}
-use Rattle.protocol.specs.declared.Request.the-variants.{Code}
 use Rattle.protocol.specs.Limits.{mostForm}
 use Rattle.protocol.specs.Refusals.{firstOf}
-use Rattle.protocol.specs.Requests.{scopeAsked, scopeGiven, noHandle, unlessRefused}
-use Rattle.protocol.specs.Authorization.{isBadQuery, queryClient, isBadClient, isBadRedirect, codeAsked, pageReasons, redirectReasons, readAuthorization}
+use Rattle.protocol.specs.Requests.{scopeAsked, scopeGiven, unlessRefused}
+use Rattle.protocol.specs.Authorization.{isBadQuery, queryClient, isBadClient, isBadRedirect, codeAsked, pageReasons, redirectReasons, codeReading, readAuthorization}
 use Rattle.protocol.proofs.Reasons.{First, first-counts}
 use Rattle.authorization_query.specs.declared.ClientQuery.{ClientQuery}
 use Rattle.authorization_query.specs.declared.QueryReading.the-variants.{ErrorPage, FromClient}
@@ -92,11 +89,11 @@ module _ (registry query : List ℕ) where
 
 -- ---- what the query of a known client asks
 
-by-decision : (asked : CodeRequest) (d : Decision) → record { request = requestBy asked d; presented = noHandle }
-    ≡ unlessRefused d (record { request = Code asked; presented = noHandle })
+by-decision : (clients : List RegisteredClient) (query : List ℕ) (farm : ℕ) (d : Decision)
+    → requestBy (codeAsked clients query farm) d ≡ unlessRefused d (codeReading clients query farm) .request
 unfolding unlessRefused
-by-decision asked Grant = refl
-by-decision asked (Refuse refusal) = refl
+by-decision clients query farm Grant = refl
+by-decision clients query farm (Refuse refusal) = refl
 
 pub asked-by : (clients : List RegisteredClient) (query : List ℕ) (decision farm : ℕ) {d : Decision}
     → First (redirectReasons (clientNamed clients query) query decision farm) d
@@ -124,11 +121,11 @@ module _ (registry query : List ℕ) (decision farm : ℕ) where
   pub read-page : (cause : PageCause) → First (pageReasons clients query ++ redirectReasons client query decision farm) (Refuse (PageRefusal cause))
       → Reads registry query decision farm (ErrorPage cause)
   unfolding readAuthorization unlessRefused
-  read-page cause f = record { reading = rw (first-counts f); known = λ q e. let z : _≡_ {A = ℕ} 0 1 = cc in absurd (omega arith) }
+  read-page cause f = record { request = rw (first-counts f); known = λ q e. let z : _≡_ {A = ℕ} 0 1 = cc in absurd (omega arith) }
 
   pub read-client : (q : ClientQuery) → isBadQuery query ≡ false → isBadClient clients query ≡ false → isBadRedirect client query ≡ false
       → q .request ≡ askedOf clients query decision farm → Known registry query q → Reads registry query decision farm (FromClient q)
   unfolding readAuthorization pageReasons firstOf askedOf
   read-client q a b c request known =
-      let reading = ap (λ (r : Request). record { request = r; presented = noHandle }) request ∙ by-decision (codeAsked clients query farm) _ in
-      record { reading = rw (a, b, c) reading; known = λ p e. let same : q ≡ p = cc in subst (Known registry query) same known }
+      let asked = request ∙ by-decision clients query farm _ in
+      record { request = rw (a, b, c) asked; known = λ p e. let same : q ≡ p = cc in subst (Known registry query) same known }

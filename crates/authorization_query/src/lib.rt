@@ -1,5 +1,5 @@
-// authorization_query: how the query of an authorization request is read (RFC 6749, section 4.1.1). The token store is
-// not looked at.
+// authorization_query: how the query of an authorization request is read (RFC 6749, section 4.1.1; RFC 7636, section 4.3). The
+// token store is not looked at.
 //
 // A query is refused with an error page until its client and redirect address are known to be good. Only then is there
 // a `ClientQuery`, and with it an address to send the user to: the registered one, never one from the query.
@@ -19,8 +19,8 @@ ghost use mathlib.Core.Path.{_≡_};
 ghost use mathlib.Core.Bool.{true};
 ghost use Rattle.client_registry.specs.Registry.{clientsOf, fitRegistry};
 ghost use Rattle.client_registry.specs.Lookup.{clientAt, IsEntry};
-ghost use Rattle.protocol.specs.Authorization.{isBadRedirect, isInvalidRequest, isDenied};
-ghost use Rattle.authorization_query.specs.Reading.{IsRead, Named, askedOf, Reads};
+ghost use Rattle.protocol.specs.Authorization.{isBadRedirect, isBadChallenge, isInvalidRequest, isDenied};
+ghost use Rattle.authorization_query.specs.Reading.{challengeIn, methodIn, IsRead, Named, askedOf, Reads};
 
 // Where the known names have their places, in the order in which `read_query` gives them to the form's reader.
 const RESPONSE_TYPE: usize = 0;
@@ -33,11 +33,16 @@ const SCOPE: usize = 3;
 
 const STATE: usize = 4;
 
-// The query of a known client, whose redirect address may be used: the client, where the state stands in the query, and
-// what is asked, which may be a refusal that the client is told.
+const CODE_CHALLENGE: usize = 5;
+
+const CODE_CHALLENGE_METHOD: usize = 6;
+
+// The query of a known client, whose redirect address may be used: the client, where the state and the code challenge stand in
+// the query, and what is asked, which may be a refusal that the client is told.
 pub struct ClientQuery {
     pub client: Entry,
     pub state: Place,
+    pub challenge: Place,
     pub request: Request,
 }
 
@@ -57,10 +62,27 @@ fn is_bad_redirect(query: &[u8], places: [Place; PLACES], registry: &[u8], clien
     !form::is_missing(query, redirect) & !form::is_once(query, redirect, registered)
 }
 
-// Whether response_type is missing, it, scope or state is repeated, or the state is none that is sent back.
-fn is_invalid_request(query: &[u8], places: [Place; PLACES]) -> bool
-    requires { ⌜ IsRead (now query) places ⌝ }
-    ensures { λ r. ⌜ r ≡ isInvalidRequest (now (query .entry)) ⌝ }
+// Whether the code challenge is at fault: it is no digest or does not go with the method S256; or there is none, and yet a
+// method, or the client is public and must send one.
+fn is_bad_challenge(query: &[u8], places: [Place; PLACES], registry: &[u8], client: Entry) -> bool
+    requires { ⌜ (fitRegistry (now registry) ≡ true) × IsEntry (now registry) client × IsRead (now query) places ⌝ }
+    ensures { λ r. ⌜ r ≡ isBadChallenge (clientAt (clientsOf (now (registry .entry))) (client .number)) (challengeIn (now (query .entry))) (methodIn (now (query .entry))) ⌝ }
+{
+    let challenge = places[CODE_CHALLENGE];
+    let method = places[CODE_CHALLENGE_METHOD];
+    if form::is_missing(query, challenge) {
+        return !form::is_missing(query, method)
+            | !client_registry::is_confidential(registry, client);
+    }
+    let given = parameters::challenge_given(query, challenge);
+    !form::is_once(query, method, b"S256") | !given.valid
+}
+
+// Whether response_type is missing, it, scope or state is repeated, the state is none that is sent back, or the code challenge is
+// at fault.
+fn is_invalid_request(query: &[u8], places: [Place; PLACES], registry: &[u8], client: Entry) -> bool
+    requires { ⌜ (fitRegistry (now registry) ≡ true) × IsEntry (now registry) client × IsRead (now query) places ⌝ }
+    ensures { λ r. ⌜ r ≡ isInvalidRequest (clientAt (clientsOf (now (registry .entry))) (client .number)) (now (query .entry)) ⌝ }
 {
     let kind = places[RESPONSE_TYPE];
     let scope = places[SCOPE];
@@ -69,6 +91,7 @@ fn is_invalid_request(query: &[u8], places: [Place; PLACES]) -> bool
         | form::is_repeated(query, kind)
         | form::is_repeated(query, scope)
         | parameters::is_bad_state(query, state)
+        | is_bad_challenge(query, places, registry, client)
 }
 
 // Whether the owner denies: the decision 1 allows, any other denies, and so does one for a farm that is no owner's.
@@ -90,7 +113,7 @@ fn ask(
     requires { ⌜ (fitRegistry (now registry) ≡ true) × Named (now registry) (now query) client × IsRead (now query) places ⌝ }
     ensures { λ r. ⌜ r ≡ askedOf (clientsOf (now (registry .entry))) (now (query .entry)) decision farm ⌝ }
 {
-    if is_invalid_request(query, places) {
+    if is_invalid_request(query, places, registry, client) {
         return Request::Refused(Refusal::Redirect(ErrorWord::InvalidRequest));
     }
     let kind = places[RESPONSE_TYPE];
@@ -139,9 +162,11 @@ fn read_places(
     }
     let request = ask(query, places, registry, client, decision, farm);
     let state = places[STATE];
+    let challenge = places[CODE_CHALLENGE];
     QueryReading::FromClient(ClientQuery {
         client,
         state,
+        challenge,
         request,
     })
 }
@@ -154,7 +179,10 @@ pub fn read_query(query: &[u8], decision: u64, farm: u32, registry: &[u8]) -> Qu
     if MOST_FORM < query.len() {
         return QueryReading::ErrorPage(PageCause::Query);
     }
-    let form = form::read(query, b"response_type&client_id&redirect_uri&scope&state");
+    let form = form::read(
+        query,
+        b"response_type&client_id&redirect_uri&scope&state&code_challenge&code_challenge_method",
+    );
     let outcome = form.outcome;
     let Outcome::WellFormed = outcome else {
         return QueryReading::ErrorPage(PageCause::Query);

@@ -24,7 +24,7 @@ use Rattle.form.specs.declared.Form.{Form}
 
 -- how many places there are: as many as the longest list of names needs
 abbrev pub placeCount : ℕ
-placeCount = 7
+placeCount = 8
 
 -- a name that was not seen
 abbrev pub unseen : Place

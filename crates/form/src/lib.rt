@@ -18,7 +18,7 @@ ghost use Rattle.form.specs.Content.{pieces};
 ghost use Rattle.form.specs.Places.{stepOf, rank, oneMore, seenAgain, enter, readOf, Says};
 
 // How many known names a form has places for: as many as the longest list of names needs.
-pub const PLACES: usize = 7;
+pub const PLACES: usize = 8;
 
 // How often a name was seen with a value that is not empty.
 pub enum Count {

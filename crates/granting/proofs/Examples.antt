@@ -10,7 +10,7 @@ use Rattle.octets.specs.Lists.{same}
 use Rattle.encoding.specs.declared.HandleText.{HandleText}
 use Rattle.token_store.specs.Layout.{handleSize}
 use Rattle.octets.specs.Search.{count, any, firstOr, replaceFirst, replaceAll}
-use Rattle.token_store.specs.Store.{kindCode, kindBoundCode, kindAccess, kindRefresh, kindSpent, noOrigin, freeSlot, spentCode}
+use Rattle.token_store.specs.Store.{kindCode, kindBoundCode, kindAccess, kindRefresh, kindSpent, kindChallengedCode, noLink, linkTo, freeSlot, spentCode}
 use Rattle.token_store.specs.declared.Slot.{Slot}
 use Rattle.protocol.specs.declared.ErrorWord.the-variants.{InvalidGrant, InvalidScope, TemporarilyUnavailable, ServerError}
 use Rattle.protocol.specs.declared.Refusal.the-variants.{Redirect, Token, Failed}
@@ -20,7 +20,7 @@ use Rattle.protocol.specs.declared.ScopeAsked.the-variants.{Everything, Only, U
 use Rattle.protocol.specs.declared.Request.the-variants.{Code, Exchange, Refresh, Credentials}
 use Rattle.protocol.specs.declared.Reading.{Reading}
 use Rattle.protocol.specs.Refusals.{firstOf}
-use Rattle.protocol.specs.Requests.{fits, scopeGiven, presentingNone, refusedReading}
+use Rattle.protocol.specs.Requests.{fits, scopeGiven, noHandle, noChallenge, presentingNone, refusedReading}
 use Rattle.protocol.specs.Granting.{Plan, refusedPlan, codePlan, exchangePlan, refreshPlan, credentialsPlan, planFor, planOf, decisionOn, slotsBy, slotsAfter}
 use Rattle.granting.specs.declared.Granted.{Granted}
 use Rattle.granting.specs.Granted.{refusedWith, grantedWith, grantedBy}
@@ -32,36 +32,39 @@ handle x = replicate handleSize x
 abbrev shown : ℕ → HandleText
 shown x = record { valid = true; bytes = handle x }
 
--- of client 0, for farm 5 and the scope set 11: a slot of a kind, with a handle, until some time, from the code of a handle
+-- of client 0, for farm 5 and the scope set 11: a slot of a kind, with a handle, until some time, with a link; that to a code
 abbrev slot : ℕ → ℕ → ℕ → List ℕ → Slot
-slot kind x expiry origin = record { kind = kind; handle = handle x; client = 0; farm = 5; scope = 11; expiry = expiry; origin = origin }
+slot kind x expiry link = record { kind = kind; handle = handle x; client = 0; farm = 5; scope = 11; expiry = expiry; link = link }
+
+abbrev from : ℕ → List ℕ
+from x = linkTo (handle x)
 
 -- a bound code that runs out at 1600, and a refresh token
 abbrev code : Slot
-code = slot kindBoundCode 7 1600 noOrigin
+code = slot kindBoundCode 7 1600 noLink
 
 abbrev token : Slot
-token = slot kindRefresh 8 9000 (handle 6)
+token = slot kindRefresh 8 9000 (from 6)
 
 abbrev slots : List Slot
 slots = freeSlot ∷ code ∷ token ∷ freeSlot ∷ []
 
 -- a spent code with its tokens, one of which has run out, and another's; and without the tokens
 abbrev exchanged : List Slot
-exchanged = slot kindSpent 6 1600 noOrigin ∷ slot kindAccess 5 900 (handle 6) ∷ token ∷ slot kindAccess 4 9000 (handle 7) ∷ []
+exchanged = slot kindSpent 6 1600 noLink ∷ slot kindAccess 5 900 (from 6) ∷ token ∷ slot kindAccess 4 9000 (from 7) ∷ []
 
 abbrev cleared : List Slot
-cleared = slot kindSpent 6 1600 noOrigin ∷ freeSlot ∷ freeSlot ∷ slot kindAccess 4 9000 (handle 7) ∷ []
+cleared = slot kindSpent 6 1600 noLink ∷ freeSlot ∷ freeSlot ∷ slot kindAccess 4 9000 (from 7) ∷ []
 
 -- a code for farm 5 and the scope set 11, and what presents a code or a refresh token
 abbrev authorize : Bool → Reading
 authorize bound = presentingNone (Code (record { client = 0; farm = 5; scope = 11; bound = bound }))
 
 abbrev exchange : ℕ → ℕ → Bool → Reading
-exchange client x again = record { request = Exchange (record { client = client; again = again }); presented = shown x }
+exchange client x again = record { request = Exchange (record { client = client; again = again }); presented = shown x; challenge = noChallenge }
 
 abbrev refresh : ℕ → ℕ → ScopeAsked → Reading
-refresh client x scope = record { request = Refresh (record { client = client; scope = scope }); presented = shown x }
+refresh client x scope = record { request = Refresh (record { client = client; scope = scope }); presented = shown x; challenge = noChallenge }
 
 -- an access token for client 0 itself
 abbrev itself : Reading
@@ -129,25 +132,25 @@ unfolding grantedBy firstOf planFor refusedPlan codePlan exchangePlan refreshPla
 cases-hold = refl
 
 -- a code is bound where redirect_uri was given
-pub code-leaves : slotsAfter (planOf 1000 slots (handle 1) (authorize false)) ≡ slot kindCode 1 1600 noOrigin ∷ code ∷ token ∷ freeSlot ∷ []
+pub code-leaves : slotsAfter (planOf 1000 slots (handle 1) (authorize false)) ≡ slot kindCode 1 1600 noLink ∷ code ∷ token ∷ freeSlot ∷ []
 unfolding slotsBy firstOf planFor codePlan count any firstOr replaceFirst same freeSlot
 code-leaves = refl
 
 -- the code stays as spent; the access token takes the lowest slot and the refresh token the next, both from that code
 pub exchange-leaves : slotsAfter (planOf 1000 slots (random 1 2) (exchange 0 7 true))
-    ≡ slot kindAccess 1 4600 (handle 7) ∷ slot kindSpent 7 1600 noOrigin ∷ token ∷ slot kindRefresh 2 2593000 (handle 7) ∷ []
+    ≡ slot kindAccess 1 4600 (from 7) ∷ slot kindSpent 7 1600 noLink ∷ token ∷ slot kindRefresh 2 2593000 (from 7) ∷ []
 unfolding slotsBy firstOf planFor exchangePlan count any firstOr replaceFirst same freeSlot
 exchange-leaves = refl
 
 -- an access token on a refresh token comes from the code that this one came from
 pub refresh-leaves : slotsAfter (planOf 1000 slots (random 1 2) (refresh 0 8 Everything))
-    ≡ slot kindAccess 1 4600 (handle 6) ∷ code ∷ token ∷ freeSlot ∷ []
+    ≡ slot kindAccess 1 4600 (from 6) ∷ code ∷ token ∷ freeSlot ∷ []
 unfolding slotsBy firstOf planFor refreshPlan fits scopeGiven count any firstOr replaceFirst same freeSlot
 refresh-leaves = refl
 
 -- a client's token for itself is an access token for farm 0, and comes from itself
 pub itself-leaves : slotsAfter (planOf 1000 slots (random 1 2) itself)
-    ≡ record { kind = kindAccess; handle = handle 1; client = 0; farm = 0; scope = 9; expiry = 4600; origin = handle 1 }
+    ≡ record { kind = kindAccess; handle = handle 1; client = 0; farm = 0; scope = 9; expiry = 4600; link = from 1 }
     ∷ code
     ∷ token
     ∷ freeSlot
@@ -175,11 +178,11 @@ refusals =
     ∷ refusal 1600 exchanged (exchange 0 6 false) exchanged
     ∷ refusal 1000 exchanged (exchange 1 6 false) exchanged
     -- an unspent code has its handle, and has run out
-    ∷ refusal 1000 (slot kindCode 6 600 noOrigin ∷ exchanged) (exchange 0 6 false) (slot kindCode 6 600 noOrigin ∷ exchanged)
+    ∷ refusal 1000 (slot kindCode 6 600 noLink ∷ exchanged) (exchange 0 6 false) (slot kindCode 6 600 noLink ∷ exchanged)
     -- a lower spent code of its handle has run out
-    ∷ refusal 1000 (slot kindSpent 6 600 noOrigin ∷ exchanged) (exchange 0 6 false) (slot kindSpent 6 600 noOrigin ∷ exchanged)
+    ∷ refusal 1000 (slot kindSpent 6 600 noLink ∷ exchanged) (exchange 0 6 false) (slot kindSpent 6 600 noLink ∷ exchanged)
     -- a spent code of zeros clears no code
-    ∷ refusal 1000 (slot kindSpent 0 1600 noOrigin ∷ slots) (exchange 0 0 false) (slot kindSpent 0 1600 noOrigin ∷ slots)
+    ∷ refusal 1000 (slot kindSpent 0 1600 noLink ∷ slots) (exchange 0 0 false) (slot kindSpent 0 1600 noLink ∷ slots)
     ∷ []
 
 pub refusals-hold : map (λ c. slotsAfter (planOf (c .t) (c .slots) (random 1 2) (c .reading))) refusals ≡ map (λ c. c .left) refusals

@@ -1,6 +1,6 @@
 -- Laws of the steps of a grant, and of what follows from a plan (protocol's Granting.antt).
 --
--- In order: what the search for the client's own code or token says; what a refused exchange leaves; the two kinds of a code; what
+-- In order: what the search for the client's own code or token says; what a refused exchange leaves; the kinds of a code; what
 -- follows from a plan's reasons, where one applies, where none does, and where others are passed before them.
 --
 -- Not here: how a list of reasons ends (protocol's `Reasons`).
@@ -14,7 +14,7 @@ use lib.Dec.{lit≤}
 use lib.ListN.{drop}
 use Rattle.octets.specs.Search.{indexWhere, any}
 use Rattle.encoding.specs.declared.HandleText.{HandleText}
-use Rattle.token_store.specs.Store.{Store, withSlots, kindCode, kindBoundCode, kindLast, soughtKey, withoutTokens, foundAt, decode}
+use Rattle.token_store.specs.Store.{Store, withSlots, codeKind, kindLast, soughtKey, withoutTokens, foundAt, decode}
 use Rattle.token_store.specs.declared.Slot.{Slot}
 use Rattle.token_store.specs.declared.Sought.{Sought}
 use Rattle.token_store.specs.declared.Sought.the-variants.{Code as soughtCode, Spent as soughtSpent}
@@ -76,11 +76,13 @@ module _ (t client : ℕ) (presented : HandleText) (slots : List Slot) where
       → withoutTokens (presented .bytes) slots ≡ refusedSlots t client presented slots
   again-clears e o = rw (e, o)
 
--- ---- the two kinds of a code are kinds
+-- ---- the kinds of a code are kinds
 
-pub code-kind-bound : (bound : Bool) → cond bound kindBoundCode kindCode ≤ kindLast
-code-kind-bound true = lit≤ tt
-code-kind-bound false = lit≤ tt
+pub code-kind-bound : (bound challenged : Bool) → codeKind bound challenged ≤ kindLast
+code-kind-bound true true = lit≤ tt
+code-kind-bound true false = lit≤ tt
+code-kind-bound false true = lit≤ tt
+code-kind-bound false false = lit≤ tt
 
 -- ---- what follows from the reasons
 

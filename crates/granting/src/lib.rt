@@ -3,6 +3,7 @@
 // A grant decides first and changes the store only once nothing is left to refuse: a request that is refused spends
 // nothing. One refusal changes the store: a code that is shown again withdraws the tokens that came from it. Time is the
 // call's time t, which no clock moves back, and never a clock.
+use encoding::DigestText;
 use encoding::HandleText;
 use protocol::CodeRequest;
 use protocol::CredentialsRequest;
@@ -20,18 +21,20 @@ use token_store::Slot;
 use token_store::Sought;
 use token_store::layout::HANDLE_SIZE;
 use token_store::layout::KIND_ACCESS;
+use token_store::layout::KIND_BOUND_CHALLENGED_CODE;
 use token_store::layout::KIND_BOUND_CODE;
+use token_store::layout::KIND_CHALLENGED_CODE;
 use token_store::layout::KIND_CODE;
 use token_store::layout::KIND_REFRESH;
 use token_store::layout::KIND_SPENT;
+use token_store::layout::LINK_SIZE;
 ghost use mathlib.Core.Path.{_≡_};
-ghost use mathlib.Core.Bool.{cond};
 ghost use Prim.Native.Nat.{_+_, _<_, _≤_};
 ghost use lib.ListN.{length, set};
 ghost use Rattle.token_store.specs.Layout.{storeSize, slotCount, latestTime};
-ghost use Rattle.token_store.specs.Store.{decode, withSlots, spentCode, kindCode, kindBoundCode, kindLast, lifetimeOf};
+ghost use Rattle.token_store.specs.Store.{decode, withSlots, spentCode, codeKind, kindLast, lifetimeOf};
 ghost use Rattle.protocol.specs.Limits.{codeRandom, tokenRandom};
-ghost use Rattle.protocol.specs.Granting.{newCode, tokenOn, clientToken, refusedSlots, anyTaken, singlePlan, accessPlan, codePlan, exchangePlan, refreshPlan, credentialsPlan, planOf};
+ghost use Rattle.protocol.specs.Granting.{newCode, tokenOn, clientToken, isUnverified, refusedSlots, anyTaken, singlePlan, accessPlan, codePlan, exchangePlan, refreshPlan, credentialsPlan, planOf};
 ghost use Rattle.granting.specs.Granted.{refusedWith, grantedWith, Follows, randomNeeded, ownAt, spentOn};
 
 // What a request comes to: the decision; with a grant the scope of what is issued, and whether a refresh token comes
@@ -72,20 +75,28 @@ fn expiry_at(t: u64, kind: u8) -> u64
     t + token_store::lifetime(kind)
 }
 
-// The kind of a code, by whether it is bound to its redirect address.
-fn code_kind(bound: bool) -> u8
-    ensures { λ r. ⌜ r ≡ cond bound kindBoundCode kindCode ⌝ }
+// The kind of a code, by whether it is bound to its redirect address and whether it has a challenge.
+fn code_kind(bound: bool, challenged: bool) -> u8
+    ensures { λ r. ⌜ r ≡ codeKind bound challenged ⌝ }
 {
+    if challenged {
+        return if bound {
+            KIND_BOUND_CHALLENGED_CODE
+        } else {
+            KIND_CHALLENGED_CODE
+        };
+    }
     if bound { KIND_BOUND_CODE } else { KIND_CODE }
 }
 
-// The code that is issued on a request.
-fn new_code(t: u64, handle: [u8; HANDLE_SIZE], request: CodeRequest) -> Slot
+// The code that is issued on a request with a challenge, or without one.
+fn new_code(t: u64, handle: [u8; HANDLE_SIZE], challenge: DigestText, request: CodeRequest) -> Slot
     requires { ⌜ t ≤ latestTime ⌝ }
-    ensures { λ r. ⌜ r ≡ newCode t handle request ⌝ }
+    ensures { λ r. ⌜ r ≡ newCode t handle challenge request ⌝ }
 {
-    let kind = code_kind(request.bound);
+    let kind = code_kind(request.bound, challenge.valid);
     let expiry = expiry_at(t, kind);
+    let link = challenge.bytes;
     Slot {
         kind,
         handle,
@@ -93,7 +104,7 @@ fn new_code(t: u64, handle: [u8; HANDLE_SIZE], request: CodeRequest) -> Slot
         farm: request.farm,
         scope: request.scope,
         expiry,
-        origin: [0u8; HANDLE_SIZE],
+        link,
     }
 }
 
@@ -111,12 +122,13 @@ fn token_on(
     ensures { λ r. ⌜ r ≡ tokenOn shown origin t kind handle scope ⌝ }
 {
     let expiry = expiry_at(t, kind);
+    let link = token_store::link_to(origin);
     Slot {
         kind,
         handle,
         scope,
         expiry,
-        origin,
+        link,
         ..shown
     }
 }
@@ -130,6 +142,7 @@ fn client_token(t: u64, handle: [u8; HANDLE_SIZE], request: CredentialsRequest) 
     let scope = request.scope;
     let kind = KIND_ACCESS;
     let expiry = expiry_at(t, kind);
+    let link = token_store::link_to(handle);
     Slot {
         kind,
         handle,
@@ -137,7 +150,7 @@ fn client_token(t: u64, handle: [u8; HANDLE_SIZE], request: CredentialsRequest) 
         farm: NO_FARM,
         scope,
         expiry,
-        origin: handle,
+        link,
     }
 }
 
@@ -156,6 +169,16 @@ fn find_own(store: &[u8], t: u64, sought: Sought, presented: HandleText, client:
         return Found::At(i);
     }
     Found::Nothing
+}
+
+// Whether a code has a challenge that is not the one answered. All of its bytes are looked at, wherever the two differ.
+fn is_unverified(answered: DigestText, code: Slot) -> bool
+    ensures { λ r. ⌜ r ≡ isUnverified answered code ⌝ }
+{
+    let digest = answered.bytes;
+    let challenge = code.link;
+    let equal = octets::equal(&digest, &challenge);
+    code.is_challenged() & !(answered.valid & equal)
 }
 
 // Whether one of two handles is in use, or they are equal.
@@ -205,17 +228,23 @@ fn grant_access(store: &mut [u8], t: u64, token: Slot) -> Granted
 }
 
 // Issues a code.
-fn grant_code(store: &mut [u8], t: u64, random: &[u8], request: CodeRequest) -> Granted
+fn grant_code(
+    store: &mut [u8],
+    t: u64,
+    random: &[u8],
+    challenge: DigestText,
+    request: CodeRequest,
+) -> Granted
     requires { ⌜ (length (now store) ≡ storeSize) × (t ≤ latestTime) × (codeRandom ≤ length (now random)) ⌝ }
     ensures { λ r.
         let before = decode (now (store .entry)) in
-        ⌜ Follows (codePlan t (before .slots) (now (random .entry)) request) before r (decode (now (store .exit))) ⌝ }
+        ⌜ Follows (codePlan t (before .slots) (now (random .entry)) challenge request) before r (decode (now (store .exit))) ⌝ }
 {
     let handle = token_store::handle_at(random, 0);
     grant_single(
         store,
         t,
-        new_code(t, handle, request),
+        new_code(t, handle, challenge, request),
         Refusal::Redirect(ErrorWord::TemporarilyUnavailable),
         Refusal::Redirect(ErrorWord::ServerError),
     )
@@ -257,6 +286,7 @@ fn spend(
     let scope = code.scope;
     let spent = Slot {
         kind: KIND_SPENT,
+        link: [0u8; LINK_SIZE],
         ..code
     };
     token_store::put(store, i, spent);
@@ -272,25 +302,29 @@ fn spend(
     );
 }
 
-// Exchanges the code presented for an access and a refresh token.
+// Exchanges the code presented for an access and a refresh token. A challenge that it has must be the one answered.
 fn grant_exchange(
     store: &mut [u8],
     t: u64,
     random: &[u8],
     presented: HandleText,
+    answered: DigestText,
     request: ExchangeRequest,
 ) -> Granted
     requires { ⌜ (length (now store) ≡ storeSize) × (t ≤ latestTime) × (tokenRandom ≤ length (now random)) ⌝ }
     ensures { λ r.
         let before = decode (now (store .entry)) in
-        ⌜ Follows (exchangePlan t (before .slots) (now (random .entry)) presented request) before r (decode (now (store .exit))) ⌝ }
+        ⌜ Follows (exchangePlan t (before .slots) (now (random .entry)) presented answered request) before r (decode (now (store .exit))) ⌝ }
 {
     let Found::At(i) = find_own(store, t, Sought::Code, presented, request.client) else {
         withdraw_shown_again(store, t, presented, request.client);
         return refused(Refusal::Token(ErrorWord::InvalidGrant));
     };
     let code = token_store::slot_at(store, i);
-    if (code.kind == KIND_BOUND_CODE) & !request.again {
+    if code.is_bound_code() & !request.again {
+        return refused(Refusal::Token(ErrorWord::InvalidGrant));
+    }
+    if is_unverified(answered, code) {
         return refused(Refusal::Token(ErrorWord::InvalidGrant));
     }
     if !token_store::has_room(store, t, 2) {
@@ -328,7 +362,7 @@ fn grant_refresh(
     }
     let scope = parameters::scope_given(asked, token.scope);
     let handle = token_store::handle_at(random, 0);
-    let origin = token.origin;
+    let origin = token.origin();
     let access = token_on(token, origin, t, KIND_ACCESS, handle, scope);
     grant_access(store, t, access)
 }
@@ -358,10 +392,18 @@ pub fn grant(store: &mut [u8], t: u64, random: &[u8], reading: Reading) -> Grant
 {
     let request = reading.request;
     let presented = reading.presented;
+    let challenge = reading.challenge;
     match request {
         Request::Refused(refusal) => refused(refusal),
-        Request::Code(code) => grant_code(store, t, random, code),
-        Request::Exchange(exchange) => grant_exchange(store, t, random, presented, exchange),
+        Request::Code(code) => grant_code(store, t, random, challenge, code),
+        Request::Exchange(exchange) => grant_exchange(
+            store,
+            t,
+            random,
+            presented,
+            challenge,
+            exchange,
+        ),
         Request::Refresh(refresh) => grant_refresh(store, t, random, presented, refresh),
         Request::Credentials(credentials) => grant_credentials(store, t, random, credentials),
     }

@@ -22,7 +22,7 @@ use Rattle.history.specs.Contents.{Issue, standingAfter, twenties, Conte
 use Rattle.octets.proofs.Counting.{count-append}
 use Rattle.history.proofs.HeldIssues.{Held, asIssue}
 use Rattle.history.proofs.Invariant.{Invariant, invariant-fresh, invariant-later}
-use Rattle.history.proofs.Readings.{FitClients, clients-fit, Brings}
+use Rattle.history.proofs.Readings.{FitClients, clients-fit, BringsAs}
 use Rattle.history.proofs.OneRequest.{heldAfter, heldAfterRefusal, request-kept}
 use Rattle.history.proofs.SoundStores.{Sound, sound-back, sound-fresh, encode-fresh, sound-after}
 use Rattle.history.proofs.AnyCall.{outcomeOn, asked, isPast, TakenCall, unseen, seen, refused-unfit, take, past-buffers, past-registry, past-clock, call-brings, planOn, leftBy, store-on, fit-on}
@@ -88,13 +88,13 @@ module _ (registry : List ℕ) (bytes : Bytes registry) where
     fitting : FitClients clients
     fitting = clients-fit registry bytes (past-registry registry store c past)
 
-    pub brings : Brings number (handedTo c .random) (twenties c) (asked clients c .request)
+    pub brings : BringsAs number (handedTo c .random) (twenties c) (asked clients c)
     brings = call-brings clients fitting c typed (past-buffers registry store c past)
 
     pub sound-left : (g : Store) → Sound number g → Sound number (leftBy clients g c)
     sound-left g w =
         sound-after (fitting .most) (omega (arith, past-clock registry store c past, w .early)) (handedTo c .random) (twenties c)
-        (asked clients c .presented) g w (asked clients c .request) brings
+        (asked clients c .presented) (asked clients c .challenge) g w (asked clients c .request) brings
 
   module _ (c : Call) (typed : WellTyped c) {b : List ℕ} {k : Contents} (v : Kept clients b k) where
     abbrev g : Store
@@ -113,6 +113,7 @@ module _ (registry : List ℕ) (bytes : Bytes registry) where
             let q = brings c typed b past in
             let t = callTime g (handedTo c .clock) in
             let p = asked clients c .presented in
+            let d = asked clients c .challenge in
             let request = asked clients c .request in
             let short = redirect-most registry (past-registry registry b c past) in
             rw (e, kept-read v)
@@ -122,7 +123,7 @@ module _ (registry : List ℕ) (bytes : Bytes registry) where
               slots = leftBy clients g c .slots;
               held =
                   cond (isGrant (decisionOn (planOn clients g c)))
-                  (heldAfter t (v .held) number (handedTo c .random) (twenties c) p request q) (heldAfterRefusal t (v .held) p request);
+                  (heldAfter t (v .held) number (handedTo c .random) (twenties c) p d request q) (heldAfterRefusal t (v .held) p request);
               bytes = store-on clients g c;
               sound = sound-left c typed b past g (v .sound);
               issues =
@@ -130,7 +131,7 @@ module _ (registry : List ℕ) (bytes : Bytes registry) where
                   ∙ standing-shown clients short g (v .held) c (past-buffers registry b c past) q;
               inv = λ never.
                   let once = never-tail (twenties c) (k .randoms) never in
-                  request-kept (invariant-later (v .inv once) t (omega arith)) once number (handedTo c .random) (twenties c) p request q;
+                  request-kept (invariant-later (v .inv once) t (omega arith)) once number (handedTo c .random) (twenties c) p d request q;
             }))
 
   -- ---- through a list of calls

@@ -14,6 +14,7 @@ use lib.ListN.{length}
 use lib.Seq.{sets, take-all}
 use Rattle.octets.specs.Lists.{Bytes}
 use Rattle.encoding.specs.Hex.{readHandle}
+use Rattle.encoding.specs.declared.DigestText.{DigestText}
 use Rattle.encoding.specs.declared.HandleText.{HandleText}
 use Rattle.client_registry.specs.Registry.{Client, fitRegistry, clientsOf}
 use Rattle.token_store.specs.Layout.{latestTime}
@@ -50,7 +51,7 @@ use Rattle.history.specs.Contents.{firstTwenty, lastTwenty, twenties}
 use Rattle.history.specs.AnyStore.{unfitAnswer, unfitOutcome}
 use Rattle.octets.proofs.Booleans.{or-none}
 use Rattle.protocol.proofs.Reasons.{unrefused, decided}
-use Rattle.history.proofs.Readings.{FitClients, OneHandle, TwoHandles, second-last, Brings, authorization-brings, token-brings}
+use Rattle.history.proofs.Readings.{FitClients, OneHandle, TwoHandles, second-last, Brings, BringsAs, authorization-brings, token-brings}
 
 -- ---- calls over a store as a record, past refusals 1 to 4
 
@@ -179,7 +180,7 @@ two-handles handed small e =
     let size = fit-size tokenRandom handed e in record { size = size; small = small; handles = rw (second-last (handed .random) size) }
 
 pub call-brings : (clients : List Client) → FitClients clients → (c : Call) → WellTyped c → unfitTo c ≡ false
-    → Brings (length clients) (handedTo c .random) (twenties c) (asked clients c .request)
+    → BringsAs (length clients) (handedTo c .random) (twenties c) (asked clients c)
 unfolding asked unfitTo handedTo twenties Brings isUnfitRefusal
 call-brings clients fit (authorization query decision farm handed) typed e =
     let size = fit-size codeRandom handed e in
@@ -217,14 +218,15 @@ status-grant (Refuse (Token w)) = word-status w
 status-grant (Refuse (Failed f)) = failure-status f
 
 -- what is decided is no refusal with 1 to 4
-plan-fit : (clients : ℕ) (twenties : List (List ℕ)) (t : ℕ) (slots : List Slot) (random : List ℕ) (p : HandleText) (request : Request)
-    → Brings clients random twenties request → isUnfitDecision (decisionOn (planFor t slots random p request)) ≡ false
+plan-fit : (clients : ℕ) (twenties : List (List ℕ)) (t : ℕ) (slots : List Slot) (random : List ℕ) (p : HandleText) (d : DigestText) (request : Request)
+    → Brings clients random twenties d request → isUnfitDecision (decisionOn (planFor t slots random p d request)) ≡ false
 unfolding planFor refusedPlan codePlan exchangePlan refreshPlan credentialsPlan Brings isUnfitDecision isUnfitRefusal
-plan-fit clients twenties t slots random p (Refused r) q = decided (λ d. isUnfitDecision d ≡ false) _ (q, tt) (λ _. refl)
-plan-fit clients twenties t slots random p (Code r) q = decided (λ d. isUnfitDecision d ≡ false) _ (refl, (refl, tt)) (λ _. refl)
-plan-fit clients twenties t slots random p (Exchange r) q = decided (λ d. isUnfitDecision d ≡ false) _ (refl, (refl, (refl, (refl, tt)))) (λ _. refl)
-plan-fit clients twenties t slots random p (Refresh r) q = decided (λ d. isUnfitDecision d ≡ false) _ (refl, (refl, (refl, (refl, tt)))) (λ _. refl)
-plan-fit clients twenties t slots random p (Credentials r) q = decided (λ d. isUnfitDecision d ≡ false) _ (refl, (refl, tt)) (λ _. refl)
+plan-fit clients twenties t slots random p d (Refused r) q = decided (λ made. isUnfitDecision made ≡ false) _ (q, tt) (λ _. refl)
+plan-fit clients twenties t slots random p d (Code r) q = decided (λ made. isUnfitDecision made ≡ false) _ (refl, (refl, tt)) (λ _. refl)
+plan-fit clients twenties t slots random p d (Exchange r) q =
+    decided (λ made. isUnfitDecision made ≡ false) _ (refl, (refl, (refl, (refl, (refl, tt))))) (λ _. refl)
+plan-fit clients twenties t slots random p d (Refresh r) q = decided (λ made. isUnfitDecision made ≡ false) _ (refl, (refl, (refl, (refl, tt)))) (λ _. refl)
+plan-fit clients twenties t slots random p d (Credentials r) q = decided (λ made. isUnfitDecision made ≡ false) _ (refl, (refl, tt)) (λ _. refl)
 
 refused-keeps : (plan : Plan) → isGrant (decisionOn plan) ≡ false → slotsAfter plan ≡ plan .denied
 unfolding slotsBy isGrant
@@ -263,10 +265,10 @@ module _ (clients : List Client) (g : Store) where
   pub refused-left : (c : Call) → isGranted (outcomeOn clients g c .answer) ≡ false → leftBy c .slots ≡ planOn c .denied
   refused-left c e = refused-keeps (planOn c) (sym (granted-on c) ∙ e)
 
-  pub fit-on : (c : Call) → Brings (length clients) (handedTo c .random) (twenties c) (asked clients c .request)
+  pub fit-on : (c : Call) → BringsAs (length clients) (handedTo c .random) (twenties c) (asked clients c)
       → isUnfit (outcomeOn clients g c .answer) ≡ false
   unfolding outcomeOn asked handedTo serveAuthorization serveToken serveCheck isUnfit checkSlots
-  fit-on (authorization query decision farm handed) q = plan-fit (length clients) _ _ (g .slots) (handed .random) _ _ q
-  fit-on (token header body handed) q = plan-fit (length clients) _ _ (g .slots) (handed .random) _ _ q
+  fit-on (authorization query decision farm handed) q = plan-fit (length clients) _ _ (g .slots) (handed .random) _ _ _ q
+  fit-on (token header body handed) q = plan-fit (length clients) _ _ (g .slots) (handed .random) _ _ _ q
   fit-on (check presented clock) q =
       let s = shownSlot Access (readHandle presented) (g .slots) in live-fit (isLive (callTime g clock) s) (liveToken (callTime g clock) s)

@@ -7,7 +7,7 @@
 -- In order: the first unfit input; later refusals; a code that is shown twice; the store that is left; the theorem.
 -- Assumes nothing.
 use mathlib.Core.Path.{_≡_, refl, sym, ap, _∙_, fun-ext}
-use mathlib.Core.Bool.{Bool, true, false, cond, not, _&&_, _||_, true≢false}
+use mathlib.Core.Bool.{Bool, true, false, cond, not, _&&_, _||_, or-assoc, or-false, true≢false}
 use mathlib.Core.List.{List, []}
 use Prim.Native.Nat.{ℕ, _≤_}
 use lib.Dec.{ltb, lit<}
@@ -27,8 +27,8 @@ use Rattle.client_registry.proofs.Clients.{redirect-most}
 use Rattle.client_registry.specs.Registry.{Client, fitRegistry, clientsOf}
 use Rattle.client_registry.specs.Lookup.{clientAt}
 use Rattle.token_store.specs.Layout.{latestTime, timeSize, slotSize, slotCount, storeSize}
-use Rattle.token_store.specs.Store.{Store, isToken, isSought, isLive, freeSlot, shows, soughtKey, comesFrom, withoutTokens, concat, tabulate, slotBytes, decodeSlot, encode, decode, callTime}
-use Rattle.token_store.specs.declared.Sought.the-variants.{Spent}
+use Rattle.token_store.specs.Store.{Store, isToken, originOf, isSought, isLive, freeSlot, shows, soughtKey, comesFrom, withoutTokens, concat, tabulate, slotBytes, decodeSlot, encode, decode, callTime}
+use Rattle.token_store.specs.declared.Sought.the-variants.{Code, Spent}
 use Rattle.token_store.proofs.Slots.{sought-used}
 use Rattle.token_store.proofs.Codec.{time-at, encode-later, encode-freed}
 use Rattle.token_store.proofs.Fits.{fit-size}
@@ -49,7 +49,7 @@ use Rattle.history.specs.Calls.{Call, authorization, token, check, hande
 use Rattle.history.specs.Server.{Answer, authorizationAnswer, tokenAnswer, checkAnswer, answering, outcomeOf, isUnfit, isGranted, lengthOf}
 use Rattle.history.specs.Contents.{valueOf, codeShown}
 use Rattle.history.specs.Slots.{holdsTokenFrom}
-use Rattle.history.specs.AnyStore.{isShownTwice, withoutTokensFrom, afterRefusal, buffersUnfit, inputs, isFitFor, isUnfitInput, FirstUnfit, unfitAnswer, unfitOutcome, decisionIn, refusalText, refusalAnswer, withClock, done, output, Demand1}
+use Rattle.history.specs.AnyStore.{isUnspent, isShownTwice, withoutTokensFrom, afterRefusal, buffersUnfit, inputs, isFitFor, isUnfitInput, FirstUnfit, unfitAnswer, unfitOutcome, decisionIn, refusalText, refusalAnswer, withClock, done, output, Demand1}
 use Rattle.history.proofs.SoundStores.{sound-fit, fit-sound}
 use Rattle.history.proofs.AnyCall.{outcomeOn, asked, planOn, unfitTo, isPast, TakenCall, unseen, seen, refused-unfit, take, seen-past, past-buffers, past-registry, past-store, leftBy, store-on, fit-on, refused-left}
 use Rattle.history.proofs.Asking.{caller-is}
@@ -151,14 +151,23 @@ spent-live t slots p = by-test (any key slots) found none
     none : any key slots ≡ false → isLive t (shownSlot Spent p slots) ≡ ltb t (shownSlot Spent p slots .expiry)
     none e = rw (firstOr-none key freeSlot slots e) (sym (le-ltb t 0 (omega arith)))
 
+-- the claim's words are the server's
+unspent-key : (text : List ℕ) → isUnspent text ≡ soughtKey Code (readHandle text)
+unfolding any
+unspent-key text = fun-ext (λ s. simp (or-assoc, or-false))
+
 module _ (clients : List Client) (store : List ℕ) where
-  -- the claim's words are the server's
   twice-again : (c : Call) → isShownTwice clients store c ≡ isAgain clients (callTime (decode store) (handedTo c .clock)) (decode store .slots) c
   unfolding isShownTwice isAgain handedTo
   twice-again (authorization query decision farm handed) = refl
   twice-again (token header body handed) =
       let p = readHandle (valueOf body (bytes "code")) in
-      rw (caller-is clients header body, ← (time-at store), spent-live (callTime (decode store) (handed .clock)) (decode store .slots) p)
+      rw (
+        caller-is clients header body,
+        unspent-key (valueOf body (bytes "code")),
+        ← (time-at store),
+        spent-live (callTime (decode store) (handed .clock)) (decode store .slots) p,
+      )
   twice-again (check presented clock) = refl
 
   -- what is decided is what is answered, of a call that can be refused
@@ -224,7 +233,7 @@ module _ (registry : List ℕ) (bytes : Bytes registry) (store : List ℕ) (stor
       let handle = readHandle (codeShown c) .bytes in
       let front : length (takeFirst timeSize store) ≡ timeSize = length-take-le timeSize store (omega arith) in
       let same-test : (slot : List ℕ) → comesFrom handle (decodeSlot slot) ≡ holdsTokenFrom (codeShown c) slot =
-      λ slot. ap (λ (v : Bool). isToken (decodeSlot slot) && (v && same handle (decodeSlot slot .origin))) (sym (again-valid clients t slots c e))
+      λ slot. ap (λ (v : Bool). isToken (decodeSlot slot) && (v && same handle (originOf (decodeSlot slot)))) (sym (again-valid clients t slots c e))
       in
       let freed =
       encode-freed store size stored (comesFrom handle)

@@ -1,4 +1,5 @@
--- Demand 1 on some calls: what server and claim say of unfit inputs is what document 01 says, by computation from the definitions; and
+-- Demand 1 on some calls: what server and claim say of unfit inputs, and which codes the claim calls unspent, is what document 01 says, by
+-- computation from the definitions; and
 -- a clock too late and one to be kept by the theorem, on the fresh store of zero bytes.
 -- Assumes nothing.
 use mathlib.Core.Path.{_≡_, refl, ap, _∙_}
@@ -10,14 +11,16 @@ use lib.Dec.{eqb}
 use lib.ListN.{length, take, replicate}
 use Rattle.octets.specs.Text.{bytes}
 use Rattle.octets.specs.Lists.{Bytes, every, same}
-use Rattle.octets.specs.Search.{any}
+use Rattle.octets.specs.Search.{any, keep}
 use Rattle.octets.proofs.Lists.{zero-bytes}
 use Rattle.octets.specs.BigEndian.{bigEndianFrom, bigEndianBytes}
+use Rattle.encoding.specs.Hex.{hexText, hexDigit, hexValue, readHandle, isHandleText, unhex}
 use Rattle.client_registry.specs.Registry.{soundText, soundId, soundRedirect, soundSecret, soundField, soundCommon, soundPublic, soundConfidential, soundRecord, recordSize, recordsBehind, soundRecords, clientsOf, distinct, fitRegistry}
 use Rattle.client_registry.specs.Sample.{recordOf, registryOf, sampleConfidential, samplePublic, sampleClients, sampleRegistry}
 use Rattle.token_store.specs.Layout.{storeSize}
 use Rattle.token_store.specs.Store.{fresh}
 use Rattle.token_store.specs.Fit.{fitStore}
+use Rattle.token_store.specs.declared.Slot.{Slot}
 use Rattle.protocol.specs.declared.Input.{Input}
 use Rattle.protocol.specs.declared.Input.the-variants.{Buffers, Registry, Store, Clock}
 use Rattle.protocol.specs.declared.Decision.{Decision}
@@ -29,7 +32,7 @@ use Rattle.protocol.specs.Refusals.{firstOf}
 use Rattle.protocol.specs.Outcomes.{Handed, admit, outcomeBy, outcome}
 use Rattle.history.specs.Calls.{Call, authorization, token, check, handedTo, freshStore}
 use Rattle.history.specs.Server.{Answer, authorizationAnswer, tokenAnswer, checkAnswer, outcomeOf, isGranted, lengthOf, ours}
-use Rattle.history.specs.AnyStore.{buffersUnfit, inputs, isUnfitInput, unfitOutcome, isShownTwice, Demand1}
+use Rattle.history.specs.AnyStore.{isUnspent, buffersUnfit, inputs, isUnfitInput, unfitOutcome, isShownTwice, Demand1}
 use Rattle.history.proofs.SoundStores.{sound-fresh, sound-fit}
 use Rattle.history.proofs.AllCalls.{fresh-bytes}
 use Rattle.history.proofs.AnyStore.{demand1}
@@ -96,6 +99,15 @@ claimed k = eqb (firstOfThese k inputs) (k .paper)
 pub unfit-as-told : every (λ k. served k && claimed k) cases ≡ true
 unfolding cases handing served claimed firstOfThese numberIn numberOn numberAt outcomeOf outcome outcomeBy admit firstOf handedTo lengthOf buffersUnfit isUnfitInput fitStore fitRegistry distinct soundRecords recordsBehind recordSize soundRecord soundConfidential soundPublic soundCommon soundField soundSecret soundRedirect soundId soundText every same sampleRegistry sampleClients samplePublic sampleConfidential registryOf recordOf
 unfit-as-told = refl
+
+-- ---- unspent codes
+
+unfoldable pub ofKind : ℕ → Slot
+ofKind kind = record { kind = kind; handle = replicate 20 0; client = 0; farm = 0; scope = 1; expiry = 0; link = replicate 32 0 }
+
+pub unspent-kinds : keep (λ kind. isUnspent (hexText (replicate 20 0)) (ofKind kind)) (0 ∷ 1 ∷ 2 ∷ 3 ∷ 4 ∷ 5 ∷ 6 ∷ 7 ∷ 8 ∷ []) ≡ 1 ∷ 2 ∷ 6 ∷ 7 ∷ []
+unfolding ofKind keep any every same hexText hexDigit hexValue readHandle isHandleText unhex
+unspent-kinds = refl
 
 -- ---- the fresh store
 

@@ -30,10 +30,10 @@ use Rattle.protocol.specs.declared.Request.the-variants.{Exchange, Refresh, Cre
 use Rattle.protocol.specs.declared.Reading.{Reading}
 use Rattle.protocol.specs.Answers.{isGrant}
 use Rattle.protocol.specs.Refusals.{when, firstOf}
-use Rattle.protocol.specs.Requests.{scopeAsked, presentingNone, refusedReading, unlessRefused}
+use Rattle.protocol.specs.Requests.{scopeAsked, noChallenge, presentingNone, refusedReading, unlessRefused}
 use Rattle.protocol.specs.Authorization.{scopeFor}
 use Rattle.protocol.specs.ClientForms.{isInvalidForm, isInvalidClient, presentedId, headerId, credentials, callClient, formReasons}
-use Rattle.protocol.specs.Token.{tokenNames, readExchange, readRefresh, readCredentials, readGrant, readToken}
+use Rattle.protocol.specs.Token.{tokenNames, challengeAnswered, readExchange, readRefresh, readCredentials, readGrant, readToken}
 use Rattle.history.specs.Contents.{valueOf, isExchange, isRefresh, isCredentials, idIn, caller, isAdmitted}
 
 -- ---- who calls
@@ -55,10 +55,18 @@ module _ (clients : List Client) (header body : List ℕ) where
   refreshAsked = record { client = callClient clients header body; scope = scopeAsked (formValue body (bytes "scope")) }
 
   abbrev pub exchangeReading : Reading
-  exchangeReading = record { request = Exchange exchangeAsked; presented = readHandle (valueOf body (bytes "code")) }
+  exchangeReading = record {
+    request = Exchange exchangeAsked;
+    presented = readHandle (valueOf body (bytes "code"));
+    challenge = challengeAnswered (formValue body (bytes "code_verifier"));
+  }
 
   abbrev pub refreshReading : Reading
-  refreshReading = record { request = Refresh refreshAsked; presented = readHandle (valueOf body (bytes "refresh_token")) }
+  refreshReading = record {
+    request = Refresh refreshAsked;
+    presented = readHandle (valueOf body (bytes "refresh_token"));
+    challenge = noChallenge;
+  }
 
   abbrev pub credentialsAsked : CredentialsRequest
   credentialsAsked = let number = callClient clients header body in record { client = number; scope = scopeFor (clientAt clients number) body }

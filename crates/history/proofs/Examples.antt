@@ -1,22 +1,26 @@
 -- Demand 3 on some calls: what server and claim say of them is what document 01 says, by computation, from the definitions.
 --
 -- In order: the calls, over the sample clients; the cases, each with what the paper says; what the server does, what the claim asks,
--- and whether the case meets the claim's premises; what some calls contain; room.
+-- and whether the case meets the claim's premises; what some calls contain; verifiers; room.
 --
 -- Not here: the same from the registry's and the store's bytes, by the theorem (`Visit`).
 -- Assumes nothing.
-use mathlib.Core.Path.{_≡_, refl}
-use mathlib.Core.Bool.{Bool, true, false, cond, _&&_, _||_, Bool·beq}
+use mathlib.Core.Path.{_≡_, refl, ap, fun-ext}
+use mathlib.Core.Bool.{Bool, true, false, cond, _&&_, _||_, Bool·beq, and-true}
 use mathlib.Core.List.{List, [], _∷_, _++_, map}
 use Prim.Native.Nat.{ℕ, _+_, _*_, _-_, _^_, max}
-use lib.Dec.{ltb}
-use lib.ListN.{replicate, drop}
+use lib.Dec.{leb, ltb}
+use lib.ListN.{length, replicate, drop}
 use Rattle.octets.specs.Text.{bytes}
 use Rattle.octets.specs.BigEndian.{bigEndianBytes, bigEndianFrom}
 use Rattle.octets.specs.Lists.{part, every, same, indexOf, splitOn, grow}
 use Rattle.octets.specs.Search.{indexWhere, count, any, firstOr, replaceFirst, replaceAll, keep}
+use Rattle.octets.proofs.Lists.{same-refl}
 use Rattle.encoding.specs.Hex.{hexText, hexDigit, hexValue, readHandle, isHandleText, unhex}
-use Rattle.encoding.specs.Base64.{isBase64, base64Bytes, groupBytes, soundGroup, sextet, none}
+use Rattle.encoding.specs.Base64.{url, readDigest, isDigestText, base64Text, digit64, isBase64, base64Bytes, groupBytes, soundGroup, sextet, none}
+use Rattle.sha256.specs.Functions.{rotr, ch, maj, bigSigma, smallSigma}
+use Rattle.sha256.specs.Constants.{roundConstants, initialHash}
+use Rattle.sha256.specs.Digest.{padding, paddedMessage, blockWords, scheduleWord, nextWord, extended, schedule, firstSum, secondSum, round, rounds, added, compressed, hashed, wordsBytes, stateBytes, digest}
 use Rattle.form_coding.specs.Coding.{decodeAfter, firstByte, extra, isEscape, plain, wellFormed, sound, encode, encodeByte}
 use Rattle.form.specs.Content.{Value, missing, once, isWellFormedForm, pieceName, pieceValue, gives, add, valueIn, formValue, isMissing, isRepeated, onlyValue, isOnce}
 use Rattle.scope.specs.Set.{names}
@@ -32,16 +36,17 @@ use Rattle.protocol.specs.declared.Decision.the-variants.{Grant, Refuse}
 use Rattle.protocol.specs.Answers.{isGrant, wordText}
 use Rattle.protocol.specs.Refusals.{firstOf}
 use Rattle.protocol.specs.Requests.{askedBy, scopeAsked, fits, scopeGiven, unlessRefused}
-use Rattle.protocol.specs.Authorization.{isBadQuery, queryClient, isBadClient, isBadRedirect, isSoundState, isBadState, isInvalidRequest, isOtherType, isInvalidScope, codeAsked, pageReasons, redirectReasons, readAuthorization, separator, stateText, location, codeParameter, errorParameter, locationText}
+use Rattle.protocol.specs.Authorization.{challengeGiven, isBadChallenge, isBadQuery, queryClient, isBadClient, isBadRedirect, isSoundState, isBadState, isInvalidRequest, isOtherType, isInvalidScope, codeAsked, pageReasons, redirectReasons, readAuthorization, separator, stateText, location, codeParameter, errorParameter, locationText}
 use Rattle.protocol.specs.ClientForms.{isInvalidForm, lowerCase, sameAnyCase, credentials, isBadHeader, headerId, headerSecret, presentedId, presentedSecret, isUnclearId, isImpostor, callClient, isInvalidClient, formReasons}
-use Rattle.protocol.specs.Token.{readExchange, readRefresh, readCredentials, readGrant, readToken, errorReply, refusalReply, tokenReply, refreshMember}
+use Rattle.protocol.specs.Token.{challengeAnswered, isSoundVerifier, readExchange, readRefresh, readCredentials, readGrant, readToken, errorReply, refusalReply, tokenReply, refreshMember}
 use Rattle.protocol.specs.Granting.{refusedPlan, codePlan, exchangePlan, refreshPlan, credentialsPlan, planFor, planOf, decisionOn, slotsBy, checkSlots}
 use Rattle.protocol.specs.Outcomes.{Handed, serveAuthorization, replyText, serveToken, serveCheck}
+use Rattle.protocol.proofs.Cases.{challenge, challenging}
 use Rattle.protocol.proofs.Starred.{countUp, rfcQuery}
 use Rattle.history.specs.Calls.{Call, authorization, token, check, handedTo, Result}
 use Rattle.history.specs.Contents.{Sort, code, access, refresh, Issue, noIssue, isExchange, isRefresh, isCredentials, noneBeyond, isWithinGranted, namesOr, askedOr, idIn, isAdmitted, codeIssue, exchangeIssues, refreshIssues, ownIssue, issuedBy, isSpentBy, asSpent, isSecondShowing, codeShown, isWithdrawnBy, standingAfter, Contents, nothingYet, withEvent, withEvents, twenties}
 use Rattle.history.specs.Slots.{holdsTokenFrom}
-use Rattle.history.specs.Claim.{isRepeatedBy, mayExchange, mayRefresh, mayHaveOwn, mayPass}
+use Rattle.history.specs.Claim.{isRepeatedBy, isUnreserved, isAnsweredBy, verifies, isVerifierFor, mayExchange, mayRefresh, mayHaveOwn, mayPass}
 use Rattle.history.specs.Server.{isUnfitRefusal, isUnfitDecision, isUnfitCheck, isUnfit, isGranted, lengthOf, isLiveCheck, namedBy, isPassed, namedIn}
 use Rattle.history.proofs.AnyCall.{outcomeOn, asked, unfitTo}
 use Rattle.history.proofs.CallsOnRecords.{resultOn, leftByAll, eventsOn, isFitting}
@@ -103,15 +108,35 @@ visit = authorizeAt 1000 0 ∷ []
 unfoldable pub night : List Call
 night = authorizeAt 1000 0 ∷ check (bytes "lost") 1600 ∷ []
 
--- what a day's calls issue besides: to barnapp for farm 9 with no redirect_uri, by a refresh, and to the first client for less
+-- RFC 7636, Appendix B: a challenge, the verifier that answers it, and another verifier
+unfoldable pub challengeText : List ℕ
+challengeText = bytes "E9Melhoa2OwvFrEMTJguCHaoeK1t8URWbuGJSstw-cM"
+
+unfoldable pub verifier : List ℕ
+verifier = bytes "dBjftJeZ4CVP-mB92K27uhbUJU1p1r_wW1gFWFOEjXk"
+
+unfoldable pub otherVerifier : List ℕ
+otherVerifier = bytes "dBjftJeZ4CVP-mB92K27uhbUJU1p1r_wW1gFWFOEjXl"
+
+unfoldable pub verifying : List ℕ → List ℕ
+verifying text = bytes "&code_verifier=" ++ text
+
+-- what a day's calls issue besides: to barnapp for farm 9 with no redirect_uri and that challenge, by a refresh, and to the first client for less
 unfoldable pub barnQuery : List ℕ
-barnQuery = bytes "response_type=code&client_id=barnapp"
+barnQuery = bytes "response_type=code&client_id=barnapp" ++ challenging
 
 unfoldable pub lessQuery : List ℕ
 lessQuery = rfcQuery ++ bytes "&scope=bill+peak"
 
 unfoldable pub barnText : List ℕ
 barnText = bytes "808182838485868788898a8b8c8d8e8f90919293"
+
+-- barnapp exchanges its code, with this behind it, and with the verifier
+unfoldable pub barnTry : List ℕ → List ℕ
+barnTry more = exchangeOf barnText ++ bytes "&client_id=barnapp" ++ more
+
+unfoldable pub barnBody : List ℕ
+barnBody = barnTry (verifying verifier)
 
 unfoldable pub againText : List ℕ
 againText = bytes "606162636465666768696a6b6c6d6e6f70717273"
@@ -174,6 +199,26 @@ pumps =
     ∷ tokenAt [] (ownFor (bytes "&client_id=barnapp")) 1003 0x78
     ∷ []
 
+-- barnapp gets its code at 1000, and tries it without a verifier, with one that is too short, and with the challenge itself
+unfoldable pub barnVisit : List Call
+barnVisit = authorization barnQuery 1 9 (handedAt 1000 20 0x80) ∷ []
+
+unfoldable pub guesses : List Call
+guesses =
+    barnVisit
+    ++ tokenAt [] (barnTry []) 1100 0
+    ∷ tokenAt [] (barnTry (verifying (bytes "short"))) 1101 0x28
+    ∷ tokenAt [] (barnTry (verifying challengeText)) 1102 0x50
+    ∷ []
+
+-- it exchanges the code, which is then shown again without a verifier
+unfoldable pub barnLeak : List Call
+barnLeak = barnVisit ++ tokenAt [] barnBody 1100 0x20 ∷ tokenAt [] (barnTry []) 1101 0x48 ∷ []
+
+-- the visit's code, with a challenge
+unfoldable pub challengedVisit : List Call
+challengedVisit = authorization (rfcQuery ++ challenging) 1 7 (handedAt 1000 20 0) ∷ []
+
 -- ---- the cases
 
 -- a call that is judged after some calls, and whether it yields or passes by the paper
@@ -204,6 +249,7 @@ cases =
           ∷ no (exchangeAt 1600)  -- "not at 1600"
           ∷ no (asking header (exchangeOf codeText) 1510)  -- "the right one without its redirect"
           ∷ no (asking [] (byBarnapp codeText) 1510)  -- "the wrong client"
+          ∷ yes (asking header (repeating codeText ++ verifying (bytes "short")) 1510)  -- no challenge was given, so no verifier is read
           ∷ no (check codeText 1510)  -- a code is no access token
           ∷ [];
     }
@@ -216,8 +262,6 @@ cases =
           ∷ no (asking header (repeating lessText) 2106)  -- 1506 and 600
           ∷ no (asking header (exchangeOf lessText) 1510)
           ∷ no (asking [] (byBarnapp lessText) 1510)
-          ∷ yes (asking [] (exchangeOf barnText ++ bytes "&client_id=barnapp") 1510)  -- no redirect was given, so none is repeated
-          ∷ yes (asking [] (repeating barnText ++ bytes "&client_id=barnapp") 1510)  -- nor read
           ∷ no (asking header (exchangeOf lessText ++ bytes "&redirect_uri=https%3A%2F%2Fclient%2Eexample%2Ecom%2F") 1510)  -- another one
           ∷ no (asking header (repeating accessText) 1510)  -- an access token is no code
           ∷ yes (asking codedHeader (repeating lessText) 1510)  -- the header's halves are coded
@@ -225,6 +269,7 @@ cases =
           ∷ yes (asking header (refreshFor refreshText []) 2593499)  -- no scope is asked
           ∷ no (asking header (refreshFor refreshText []) 2593500)  -- 1500 and 2,592,000
           ∷ yes (asking header (refreshFor refreshText (bytes "&scope=bill+peak")) 1510)  -- less is asked
+          ∷ yes (asking header (refreshFor refreshText (verifying (bytes "short"))) 1510)  -- a verifier is not read
           ∷ no (asking header (refreshFor refreshText (bytes "&scope=power+pump")) 1510)  -- more is asked
           ∷ no (asking header (refreshFor refreshText (bytes "&scope=power++bill")) 1510)  -- `power  bill` (two spaces) is bad
           ∷ no (asking [] (refreshFor refreshText (bytes "&client_id=barnapp")) 1510)  -- the wrong client
@@ -245,12 +290,31 @@ cases =
           ∷ no (asking header (refreshFor refreshText []) 1601)
           ∷ no (asking header (repeating codeText) 1599)  -- a third time
           ∷ yes (asking header (repeating lessText) 1601)  -- another code
-          ∷ yes (asking [] (exchangeOf barnText ++ bytes "&client_id=barnapp") 1601)
           ∷ [];
     }
     ∷ record { calls = lateShowing; judged = yes (check accessText 1601) ∷ yes (asking header (refreshFor refreshText []) 1601) ∷ [] }
     ∷ record { calls = strangers; judged = yes (check accessText 1601) ∷ yes (check againText 1601) ∷ [] }
     ∷ record { calls = impostors; judged = yes (check accessText 1601) ∷ [] }
+    ∷ record {
+      calls = barnVisit;
+      judged =
+          no (asking [] (barnTry []) 1510)  -- no verifier
+          ∷ no (asking [] (barnTry (verifying otherVerifier)) 1510)  -- of another digest
+          ∷ no (asking [] (barnTry (verifying challengeText)) 1510)  -- the challenge itself
+          ∷ no (asking header (exchangeOf barnText ++ verifying verifier) 1510)  -- the wrong client
+          ∷ no (asking [] barnBody 1600)
+          ∷ [];
+    }
+    ∷ record { calls = guesses; judged = yes (asking [] barnBody 1510) ∷ [] }  -- nothing was spent; no redirect was given, so none is repeated
+    ∷ record { calls = barnLeak; judged = no (check accessText 1510) ∷ [] }  -- of a spent code no verifier is read
+    ∷ record {
+      calls = challengedVisit;
+      judged =
+          yes (asking header (repeating codeText ++ verifying verifier) 1510)
+          ∷ no (asking header (exchangeOf codeText ++ verifying verifier) 1510)  -- no redirect
+          ∷ no (asking header (repeating codeText) 1510)  -- no verifier
+          ∷ [];
+    }
     ∷ record {
       calls = pumps;
       judged =
@@ -324,14 +388,24 @@ redirect = once (bytes "https://client.example.com/cb")
 -- what the first client gets for farm 7: a code, which is bound, or a token, from the visit's code
 unfoldable pub codeUntil : List ℕ → ℕ → ℕ → Issue
 codeUntil text scope expiry =
-    record { sort = code; text = text; client = 0; farm = 7; scope = scope; address = redirect; expiry = expiry; origin = text }
+    record { sort = code; text = text; client = 0; farm = 7; scope = scope; address = redirect; challenge = missing; expiry = expiry; origin = text }
 
 unfoldable pub tokenUntil : Sort → List ℕ → ℕ → ℕ → Issue
 tokenUntil sort text scope expiry =
-    record { sort = sort; text = text; client = 0; farm = 7; scope = scope; address = missing; expiry = expiry; origin = codeText }
+    record { sort = sort; text = text; client = 0; farm = 7; scope = scope; address = missing; challenge = missing; expiry = expiry; origin = codeText }
 
 unfoldable pub barnCode : Issue
-barnCode = record { sort = code; text = barnText; client = 1; farm = 9; scope = 1; address = missing; expiry = 2105; origin = barnText }
+barnCode = record {
+  sort = code;
+  text = barnText;
+  client = 1;
+  farm = 9;
+  scope = 1;
+  address = missing;
+  challenge = once challengeText;
+  expiry = 2105;
+  origin = barnText;
+}
 
 unfoldable pub inVisit : Contents
 inVisit = record { highest = 1000; standing = codeUntil codeText 11 1600 ∷ []; randoms = countUp 20 0 ∷ [] }
@@ -364,17 +438,13 @@ inDay = record {
       ∷ [];
 }
 
--- barnapp exchanges its code
-unfoldable pub barnBody : List ℕ
-barnBody = exchangeOf barnText ++ bytes "&client_id=barnapp"
-
 -- behind that, barnapp's tokens stand
 unfoldable pub evening : List Call
 evening = day ++ asking [] barnBody 1510 ∷ []
 
 unfoldable pub barnToken : Sort → List ℕ → ℕ → Issue
 barnToken sort text expiry =
-    record { sort = sort; text = text; client = 1; farm = 9; scope = 1; address = missing; expiry = expiry; origin = barnText }
+    record { sort = sort; text = text; client = 1; farm = 9; scope = 1; address = missing; challenge = missing; expiry = expiry; origin = barnText }
 
 unfoldable pub barnAccess : List ℕ
 barnAccess = bytes "c0c1c2c3c4c5c6c7c8c9cacbcccdcecfd0d1d2d3"
@@ -406,7 +476,7 @@ inLeak = record {
 -- the first client's tokens for itself
 unfoldable pub ownUntil : List ℕ → ℕ → ℕ → Issue
 ownUntil text scope expiry =
-    record { sort = access; text = text; client = 0; farm = 0; scope = scope; address = missing; expiry = expiry; origin = text }
+    record { sort = access; text = text; client = 0; farm = 0; scope = scope; address = missing; challenge = missing; expiry = expiry; origin = text }
 
 unfoldable pub inPumps : Contents
 inPumps = record {
@@ -423,6 +493,23 @@ inPumps = record {
       ∷ countUp 20 0xB4
       ∷ [];
 }
+
+-- ---- verifiers
+
+-- the challenge of a text's own digest is answered by it where it is 43 to 128 unreserved characters
+own-answered : (v : List ℕ) → isAnsweredBy (once (base64Text url (digest v))) (once v)
+    ≡ (leb 43 (length v) && leb (length v) 128 && every isUnreserved v)
+unfolding isAnsweredBy verifies isVerifierFor
+own-answered v = rw (same-refl (base64Text url (digest v))) (and-true _)
+
+pub verifier-lengths : map (λ n. isAnsweredBy (once (base64Text url (digest (replicate n 97)))) (once (replicate n 97))) (42 ∷ 43 ∷ 128 ∷ 129 ∷ [])
+    ≡ false ∷ true ∷ true ∷ false ∷ []
+unfolding every any
+verifier-lengths = ap (λ (f : ℕ → Bool). map f (42 ∷ 43 ∷ 128 ∷ 129 ∷ [])) (fun-ext (λ n. own-answered (replicate n 97)))
+
+pub verifier-characters : keep isUnreserved (countUp 256 0) ≡ bytes "-.0123456789ABCDEFGHIJKLMNOPQRSTUVWXYZ_abcdefghijklmnopqrstuvwxyz~"
+unfolding keep any
+verifier-characters = refl
 
 -- ---- room: so many live access tokens stand beside the code or refresh token
 
@@ -443,7 +530,7 @@ mayBesideSpent t n =
 
 -- the same by the 512 slots of a store
 unfoldable pub slotUntil : ℕ → List ℕ → ℕ → Slot
-slotUntil kind handle expiry = record { kind = kind; handle = handle; client = 0; farm = 7; scope = 11; expiry = expiry; origin = replicate 20 0 }
+slotUntil kind handle expiry = record { kind = kind; handle = handle; client = 0; farm = 7; scope = 11; expiry = expiry; link = replicate 32 0 }
 
 unfoldable pub decidedBeside : ℕ → Slot → List ℕ → Decision
 decidedBeside n s b =
@@ -492,15 +579,18 @@ pub record Computed : Type 0 where
   pub code-granted : resultOn sampleClients (leftIn day) (authorizeAt 1510 0xC0) .granted ≡ true
   pub barn-granted : resultOn sampleClients (leftIn day) (authorization barnQuery 1 9 (handedAt 1510 20 0xC0)) .granted ≡ true
   -- the first client's code, bound, for farm 7, scopes 10 and until 2106, in the bytes that the day leaves
-  pub code-kept : part (encodeStore (leftIn day)) (8 + 5 * 55) 55
-      ≡ 2 ∷ countUp 20 3 ++ 0 ∷ 0 ∷ 0 ∷ 0 ∷ 7 ∷ 10 ∷ 0 ∷ 0 ∷ 0 ∷ 0 ∷ 0 ∷ 0 ∷ 8 ∷ 58 ∷ replicate 20 0
+  pub code-kept : part (encodeStore (leftIn day)) (8 + 5 * 67) 67
+      ≡ 2 ∷ countUp 20 3 ++ 0 ∷ 0 ∷ 0 ∷ 0 ∷ 7 ∷ 10 ∷ 0 ∷ 0 ∷ 0 ∷ 0 ∷ 0 ∷ 0 ∷ 8 ∷ 58 ∷ replicate 32 0
+  -- barnapp's, unbound, for farm 9, scope 1 and until 2105, with its challenge
+  pub challenge-kept : part (encodeStore (leftIn day)) (8 + 4 * 67) 67
+      ≡ 6 ∷ countUp 20 0x80 ++ 1 ∷ 0 ∷ 0 ∷ 0 ∷ 9 ∷ 1 ∷ 0 ∷ 0 ∷ 0 ∷ 0 ∷ 0 ∷ 0 ∷ 8 ∷ 57 ∷ challenge
   -- the visit's code is spent, and its tokens have its handle
-  pub code-spent : part (encodeStore (leftIn day)) 8 55
-      ≡ 5 ∷ countUp 20 0 ++ 0 ∷ 0 ∷ 0 ∷ 0 ∷ 7 ∷ 11 ∷ 0 ∷ 0 ∷ 0 ∷ 0 ∷ 0 ∷ 0 ∷ 6 ∷ 64 ∷ replicate 20 0
-  pub tokens-from : map (λ i. drop 35 (part (encodeStore (leftIn day)) (8 + i * 55) 55)) (1 ∷ 2 ∷ 3 ∷ []) ≡ replicate 3 (countUp 20 0)
+  pub code-spent : part (encodeStore (leftIn day)) 8 67
+      ≡ 5 ∷ countUp 20 0 ++ 0 ∷ 0 ∷ 0 ∷ 0 ∷ 7 ∷ 11 ∷ 0 ∷ 0 ∷ 0 ∷ 0 ∷ 0 ∷ 0 ∷ 6 ∷ 64 ∷ replicate 32 0
+  pub tokens-from : map (λ i. drop 35 (part (encodeStore (leftIn day)) (8 + i * 67) 67)) (1 ∷ 2 ∷ 3 ∷ []) ≡ replicate 3 (countUp 20 0 ++ replicate 12 0)
   -- so that these hold tokens from it, and it does not
-  pub token-held : holdsTokenFrom codeText (part (encodeStore (leftIn day)) (8 + 55) 55) ≡ true
-  pub none-held : holdsTokenFrom codeText (part (encodeStore (leftIn day)) 8 55) ≡ false
+  pub token-held : holdsTokenFrom codeText (part (encodeStore (leftIn day)) (8 + 67) 67) ≡ true
+  pub none-held : holdsTokenFrom codeText (part (encodeStore (leftIn day)) 8 67) ≡ false
   -- the code or refresh token itself and 509 or 510 more, and two or one more, are 512
   pub room-asked : mayBeside 509 ++ mayBeside 510 ++ mayBeside 511
       ≡ true ∷ true ∷ true ∷ false ∷ true ∷ true ∷ false ∷ false ∷ false ∷ []
@@ -520,7 +610,7 @@ pub record Computed : Type 0 where
       ≡ true ∷ false ∷ false ∷ true ∷ []
 
 pub computed : Computed
-unfolding showingBy leak lateShowing strangers impostors inLeak mayBesideSpent ownFor ownText lessOwnText pumps ownUntil inPumps encodeStore encodeSlot concat bigEndianBytes decodeSlot cut bigEndianFrom redirect codeUntil tokenUntil barnCode inVisit inDay barnBody evening barnToken barnAccess inEvening beside mayBeside slotUntil decidedBeside doneBeside yields may isTyped isAsked isJudged leftIn containedIn claimAgrees agreesOn agrees cases day visit night handedAt authorizeAt header exchangeOf repeating byBarnapp tokenAt codeText accessText refreshText exchangeAt refreshFor barnQuery lessQuery barnText againText lessText rfcQuery handedTo asked outcomeOn unfitTo leftByAll eventsOn isFitting isUnfitRefusal isUnfitDecision isUnfitCheck isUnfit isGranted lengthOf isLiveCheck namedBy isPassed namedIn noIssue noneBeyond isWithinGranted namesOr askedOr codeIssue exchangeIssues refreshIssues ownIssue issuedBy isSpentBy isSecondShowing codeShown isWithdrawnBy standingAfter withEvent withEvents twenties idIn isAdmitted isRepeatedBy mayExchange mayRefresh mayHaveOwn mayPass distinct keep count any firstOr replaceFirst replaceAll freeSlot fresh every same indexOf splitOn grow hexText hexDigit hexValue readHandle isHandleText unhex isBase64 base64Bytes groupBytes soundGroup sextet none decodeAfter firstByte extra isEscape plain wellFormed sound encode encodeByte isWellFormedForm pieceName pieceValue gives add valueIn formValue names bitFrom bitOf union readScope chosen spaced scopeText indexWhere sampleClients sampleConfidential samplePublic isGrant wordText isMissing isRepeated onlyValue isOnce askedBy scopeAsked fits scopeGiven isBadQuery queryClient isBadClient isBadRedirect isSoundState isBadState isInvalidRequest isOtherType isInvalidScope codeAsked pageReasons redirectReasons readAuthorization separator stateText location codeParameter errorParameter locationText isInvalidForm lowerCase sameAnyCase credentials isBadHeader headerId headerSecret presentedId presentedSecret isUnclearId isImpostor callClient isInvalidClient formReasons readExchange readRefresh readCredentials readGrant readToken errorReply refusalReply tokenReply refreshMember firstOf unlessRefused refusedPlan codePlan exchangePlan refreshPlan credentialsPlan planFor slotsBy checkSlots serveAuthorization replyText serveToken serveCheck
+unfolding isAnsweredBy verifies isVerifierFor challengeGiven isBadChallenge readDigest isDigestText challengeAnswered isSoundVerifier base64Text digit64 challengeText verifier otherVerifier barnTry verifying barnVisit guesses barnLeak challengedVisit rotr ch maj bigSigma smallSigma roundConstants initialHash padding paddedMessage blockWords scheduleWord nextWord extended schedule firstSum secondSum round rounds added compressed hashed wordsBytes stateBytes digest showingBy leak lateShowing strangers impostors inLeak mayBesideSpent ownFor ownText lessOwnText pumps ownUntil inPumps encodeStore encodeSlot concat bigEndianBytes decodeSlot cut bigEndianFrom redirect codeUntil tokenUntil barnCode inVisit inDay barnBody evening barnToken barnAccess inEvening beside mayBeside slotUntil decidedBeside doneBeside yields may isTyped isAsked isJudged leftIn containedIn claimAgrees agreesOn agrees cases day visit night handedAt authorizeAt header exchangeOf repeating byBarnapp tokenAt codeText accessText refreshText exchangeAt refreshFor barnQuery lessQuery barnText againText lessText rfcQuery handedTo asked outcomeOn unfitTo leftByAll eventsOn isFitting isUnfitRefusal isUnfitDecision isUnfitCheck isUnfit isGranted lengthOf isLiveCheck namedBy isPassed namedIn noIssue noneBeyond isWithinGranted namesOr askedOr codeIssue exchangeIssues refreshIssues ownIssue issuedBy isSpentBy isSecondShowing codeShown isWithdrawnBy standingAfter withEvent withEvents twenties idIn isAdmitted isRepeatedBy mayExchange mayRefresh mayHaveOwn mayPass distinct keep count any firstOr replaceFirst replaceAll freeSlot fresh every same indexOf splitOn grow hexText hexDigit hexValue readHandle isHandleText unhex isBase64 base64Bytes groupBytes soundGroup sextet none decodeAfter firstByte extra isEscape plain wellFormed sound encode encodeByte isWellFormedForm pieceName pieceValue gives add valueIn formValue names bitFrom bitOf union readScope chosen spaced scopeText indexWhere sampleClients sampleConfidential samplePublic isGrant wordText isMissing isRepeated onlyValue isOnce askedBy scopeAsked fits scopeGiven isBadQuery queryClient isBadClient isBadRedirect isSoundState isBadState isInvalidRequest isOtherType isInvalidScope codeAsked pageReasons redirectReasons readAuthorization separator stateText location codeParameter errorParameter locationText isInvalidForm lowerCase sameAnyCase credentials isBadHeader headerId headerSecret presentedId presentedSecret isUnclearId isImpostor callClient isInvalidClient formReasons readExchange readRefresh readCredentials readGrant readToken errorReply refusalReply tokenReply refreshMember firstOf unlessRefused refusedPlan codePlan exchangePlan refreshPlan credentialsPlan planFor slotsBy checkSlots serveAuthorization replyText serveToken serveCheck
 computed = record {
   cases-agree = refl;
   visit-contains = refl;
@@ -539,6 +629,7 @@ computed = record {
   code-granted = refl;
   barn-granted = refl;
   code-kept = refl;
+  challenge-kept = refl;
   code-spent = refl;
   tokens-from = refl;
   token-held = refl;

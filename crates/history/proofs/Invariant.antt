@@ -28,7 +28,7 @@ use Rattle.token_store.proofs.Slots.{sought-used, code-fails, key-holds}
 use Rattle.protocol.specs.Granting.{shownSlot, withSpent, room, isOwn, isShownAgain}
 use Rattle.history.specs.Contents.{Sort, code, spent, NeverTwice}
 use Rattle.octets.proofs.Counting.{bit-some, bit-implies, count-ext, count-le, count-and, count-not, count-replicate, count-member, count-keep, any-count, any-some, firstOr-passes, count-firstOr, length-replaceFirst, count-replaceFirst, length-replaceAll, count-replaceAll, replaceFirst-map, count-map, count-apart}
-use Rattle.history.proofs.HeldIssues.{Held, asSlot, turned, spent-slot, sought, noneHeld, used, tests-tell}
+use Rattle.history.proofs.HeldIssues.{Held, asSlot, spentHeld, spent-slot, sought, noneHeld, used, tests-tell}
 
 -- the thing issued that is presented, among those that stand
 abbrev pub originHeld : Sort → HandleText → List Held → Held
@@ -67,7 +67,7 @@ module _ (p : HandleText) where
   spendSlot s = cond (soughtKey Code p s) (spentCode s) s
 
   abbrev pub spendHeld : Held → Held
-  spendHeld e = cond (soughtKey Code p (asSlot e)) (turned e spent (e .bound)) e
+  spendHeld e = cond (soughtKey Code p (asSlot e)) (spentHeld e) e
 
   -- it stays in use until its old expiry, with its handle
   spend-used : (s : Slot) → isUsed (spendSlot s) ≡ isUsed s
@@ -293,7 +293,7 @@ module _ {t : ℕ} {slots : List Slot} {standing : List Held} {seen : List (List
         where
           unspent-one : soughtKey Code p s ≡ true → bit (soughtKey Code p s) + bit (live s) ≤ bit (holds (p .bytes) s)
           unspent-one k =
-              let none = code-fails (λ kind. eqb kind kindSpent) refl refl s (and-left (isSought Code s) (shows p s) k) in
+              let none = code-fails (λ kind. eqb kind kindSpent) refl refl refl refl s (and-left (isSought Code s) (shows p s) k) in
               rw (k, key-holds Code p s k, none, and-false (isLive t s)) (omega arith)
 
           other : soughtKey Code p s ≡ false → bit (soughtKey Code p s) + bit (live s) ≤ bit (holds (p .bytes) s)

@@ -3,8 +3,9 @@
 -- Read Theorem first, then down: AllCalls (every list of calls), Shown (what the claim reads from a call is what it issued), AnyCall
 -- (one call on bytes), OneRequest (one request on slots), Invariant (the idea, over the slots of HeldIssues). Readings, SoundStores and
 -- Written: what is read fits a slot, so that the store stays fit, and what is written fits the output. Asking
--- says who calls and what is asked, SecondShowing when a code is shown again. Meaning says what it is to stand; Examples and Visit show that the claim is not empty, by
+-- says who calls and what is asked, SecondShowing when a code is shown again, Challenges which verifier answers a code's challenge. Meaning says what it is to stand; Examples and Visit show that the claim is not empty, by
 -- CallsOnRecords; UselessServers that it shuts out other servers, by ServersOnRecords. Sample: what holds of the sample registry.
+pub mod Challenges
 pub mod HeldIssues
 pub mod Invariant
 pub mod Readings

@@ -18,9 +18,10 @@ use Rattle.octets.specs.Lists.{same, every}
 use Rattle.octets.proofs.Booleans.{and-left}
 use Rattle.octets.proofs.Lists.{same-refl}
 use Rattle.encoding.specs.Hex.{readHandle, isHandleText}
+use Rattle.encoding.specs.declared.DigestText.{DigestText}
 use Rattle.encoding.specs.declared.HandleText.{HandleText}
 use Rattle.octets.specs.Search.{count, bit, any, keep, firstOr}
-use Rattle.token_store.specs.Store.{kindAccess, kindRefresh, issue, isLive, isBoundCode, isToken, isSought, holds, shows, soughtKey, freeSlot, comesFrom, withoutTokens}
+use Rattle.token_store.specs.Store.{kindAccess, kindRefresh, codeKind, lifetimeOf, originOf, issue, isLive, isBoundCode, isToken, isSought, holds, shows, soughtKey, freeSlot, comesFrom, withoutTokens}
 use Rattle.token_store.specs.declared.Slot.{Slot}
 use Rattle.token_store.specs.declared.Sought.{Sought}
 use Rattle.token_store.specs.declared.Sought.the-variants.{Code as soughtCode, Spent as soughtSpent, Refresh as soughtRefresh, Access as soughtAccess}
@@ -39,11 +40,12 @@ use Rattle.protocol.specs.declared.CheckAnswer.the-variants.{NotLive, Live}
 use Rattle.protocol.specs.Answers.{isGrant}
 use Rattle.protocol.specs.Refusals.{Reason, when, firstOf as firstReason}
 use Rattle.protocol.specs.Requests.{scopeGiven, fits}
-use Rattle.protocol.specs.Granting.{Plan, firstHandle, secondHandle, shownSlot, withSpent, room, tokenOn, newCode, refusedPlan, codePlan, exchangePlan, refreshPlan, credentialsPlan, planFor, decisionOn, slotsBy, slotsAfter, isTaken, anyTaken, liveToken, checkSlots}
+use Rattle.protocol.specs.Granting.{Plan, firstHandle, secondHandle, shownSlot, withSpent, room, tokenOn, newCode, refusedPlan, codePlan, exchangePlan, refreshPlan, credentialsPlan, planFor, decisionOn, slotsBy, slotsAfter, isTaken, anyTaken, isUnverified, liveToken, checkSlots}
 use Rattle.protocol.proofs.Reasons.{grant-every, unrefused}
 use Rattle.history.specs.Contents.{Sort, code, access, refresh, lifetime, NeverTwice}
 use Rattle.history.specs.Server.{isLiveCheck}
 use Rattle.octets.proofs.Counting.{bit-le, count-append, bit-none, any-count, firstOr-passes, firstOr-none}
+use Rattle.history.proofs.Challenges.{FitChallenge, digestOf, noDigest}
 use Rattle.history.proofs.HeldIssues.{Handle, Held, asSlot, token-origin}
 use Rattle.history.proofs.Invariant.{originHeld, spendHeld, Invariant, invariant-seen, invariant-issue, invariant-withdraw, room-left, room-spent, origin, contained, found, spent-kept, shown-again}
 use Rattle.history.proofs.Readings.{onlyOf, firstOf, secondOf, Brings}
@@ -68,18 +70,18 @@ shown-key t slots q p live = by (any (soughtKey q p) slots) refl
     by false e = absurd (false≢true (sym (free-dead t) ∙ ap (isLive t) (sym (firstOr-none (soughtKey q p) freeSlot slots e)) ∙ live))
 
 -- so that where nothing is presented there is nothing to grant
-module _ (t : ℕ) (slots : List Slot) (random : List ℕ) where
-  pub exchange-none : (r : ExchangeRequest) → isGrant (decisionOn (planFor t slots random (readHandle []) (Exchange r))) ≡ false
+module _ (t : ℕ) (slots : List Slot) (random : List ℕ) (d : DigestText) where
+  pub exchange-none : (r : ExchangeRequest) → isGrant (decisionOn (planFor t slots random (readHandle []) d (Exchange r))) ≡ false
   unfolding planFor exchangePlan firstReason isGrant readHandle isHandleText
   exchange-none r = rw (none-shown soughtCode (readHandle []) slots refl, free-dead t)
 
-  pub refresh-none : (r : RefreshRequest) → isGrant (decisionOn (planFor t slots random (readHandle []) (Refresh r))) ≡ false
+  pub refresh-none : (r : RefreshRequest) → isGrant (decisionOn (planFor t slots random (readHandle []) d (Refresh r))) ≡ false
   unfolding planFor refreshPlan firstReason isGrant readHandle isHandleText
   refresh-none r = rw (none-shown soughtRefresh (readHandle []) slots refl, free-dead t)
 
-module _ (t : ℕ) (slots : List Slot) (random : List ℕ) (p : HandleText) where
+module _ (t : ℕ) (slots : List Slot) (random : List ℕ) (p : HandleText) (d : DigestText) where
   abbrev pub Granted : Request → Type 0
-  Granted request = isGrant (decisionOn (planFor t slots random p request)) ≡ true
+  Granted request = isGrant (decisionOn (planFor t slots random p d request)) ≡ true
 
   own-live : (client : ℕ) (s : Slot) → (isLive t s && eqb (s .client) client) ≡ true → isLive t s ≡ true
   own-live client s = and-left (isLive t s) (eqb (s .client) client)
@@ -93,9 +95,9 @@ module _ (t : ℕ) (slots : List Slot) (random : List ℕ) (p : HandleText) wher
       → (isLive t (shownSlot soughtCode p slots) ≡ true) × (2 ≤ room t slots)
   unfolding planFor exchangePlan
   exchange-has r e =
-      let no = unrefused (exchangePlan t slots random p r .reasons) e in (
+      let no = unrefused (exchangePlan t slots random p d r .reasons) e in (
         own-live (r .client) (shownSlot soughtCode p slots) (not-false _ (no 0 (lit< tt))),
-        leb-true 2 (room t slots) (not-false _ (no 2 (lit< tt))),
+        leb-true 2 (room t slots) (not-false _ (no 3 (lit< tt))),
       )
 
   pub refresh-has : (r : RefreshRequest) → Granted (Refresh r) → (isLive t (shownSlot soughtRefresh p slots) ≡ true) × (1 ≤ room t slots)
@@ -108,10 +110,12 @@ module _ (t : ℕ) (slots : List Slot) (random : List ℕ) (p : HandleText) wher
 
 -- ---- what is issued
 
-abbrev pub codeHeld : ℕ → Handle → CodeRequest → Held
-codeHeld t handle r = record {
+abbrev pub codeHeld : ℕ → Handle → {d : DigestText} → FitChallenge d → CodeRequest → Held
+codeHeld t handle {d} f r = record {
   sort = code;
   bound = r .bound;
+  challenged = d .valid;
+  challenge = digestOf f;
   handle = handle;
   client = r .client;
   farm = r .farm;
@@ -125,6 +129,8 @@ abbrev pub tokenHeld : Sort → ℕ → Handle → Held → Handle → ℕ → H
 tokenHeld sort t handle shown origin scope = record {
   sort = sort;
   bound = false;
+  challenged = false;
+  challenge = noDigest;
   handle = handle;
   client = shown .client;
   farm = shown .farm;
@@ -138,6 +144,8 @@ abbrev pub clientHeld : ℕ → Handle → CredentialsRequest → Held
 clientHeld t handle r = record {
   sort = access;
   bound = false;
+  challenged = false;
+  challenge = noDigest;
   handle = handle;
   client = r .client;
   farm = 0;
@@ -146,12 +154,12 @@ clientHeld t handle r = record {
   origin = handle;
 }
 
-module _ (t : ℕ) (standing : List Held) (clients : ℕ) (random : List ℕ) (twenties : List (List ℕ)) (p : HandleText) where
+module _ (t : ℕ) (standing : List Held) (clients : ℕ) (random : List ℕ) (twenties : List (List ℕ)) (p : HandleText) (d : DigestText) where
   -- what a request that is granted issues
-  unfoldable pub issuedHeld : (request : Request) → Brings clients random twenties request → List Held
+  unfoldable pub issuedHeld : (request : Request) → Brings clients random twenties d request → List Held
   unfolding Brings
   issuedHeld (Refused r) q = []
-  issuedHeld (Code r) q = codeHeld t (onlyOf (q .0)) r ∷ []
+  issuedHeld (Code r) q = codeHeld t (onlyOf (q .0)) (q .2) r ∷ []
   issuedHeld (Exchange r) q =
       let o = originHeld code p standing in
       tokenHeld refresh t (secondOf q) o (o .handle) (o .scope) ∷ tokenHeld access t (firstOf q) o (o .handle) (o .scope) ∷ []
@@ -168,7 +176,7 @@ module _ (t : ℕ) (standing : List Held) (clients : ℕ) (random : List ℕ) (t
   keptHeld (Credentials r) = standing
 
   -- what stands after it
-  abbrev pub heldAfter : (request : Request) → Brings clients random twenties request → List Held
+  abbrev pub heldAfter : (request : Request) → Brings clients random twenties d request → List Held
   heldAfter request q = issuedHeld request q ++ keptHeld request
 
 -- a spent code of a client's that is live
@@ -184,13 +192,24 @@ heldAfterRefusal t standing p (Exchange r) =
 heldAfterRefusal t standing p (Refresh r) = standing
 heldAfterRefusal t standing p (Credentials r) = standing
 
-code-slot : (t : ℕ) (handle : Handle) (r : CodeRequest) → newCode t (handle .octets) r ≡ asSlot (codeHeld t handle r)
-code-slot t handle r = by (r .bound)
+code-slot : (t : ℕ) (handle : Handle) (d : DigestText) (f : FitChallenge d) (r : CodeRequest)
+    → newCode t (handle .octets) d r ≡ asSlot (codeHeld t handle f r)
+code-slot t handle d f r =
+    λ i. record {
+      kind = codeKind (r .bound) (d .valid);
+      handle = handle .octets;
+      client = r .client;
+      farm = r .farm;
+      scope = r .scope;
+      expiry = t + by (r .bound) (d .valid) i;
+      link = d .bytes;
+    }
   where
-    by : (b : Bool) → newCode t (handle .octets) (record { client = r .client; farm = r .farm; scope = r .scope; bound = b })
-        ≡ asSlot (codeHeld t handle (record { client = r .client; farm = r .farm; scope = r .scope; bound = b }))
-    by true = refl
-    by false = refl
+    by : (b c : Bool) → lifetimeOf (codeKind b c) ≡ lifetime code
+    by true true = refl
+    by true false = refl
+    by false true = refl
+    by false false = refl
 
 two-issues : {t : ℕ} {slots : List Slot} {standing : List Held} {seen : List (List ℕ)} (x y : Held)
     → Invariant t slots standing seen → 2 ≤ room t slots
@@ -204,19 +223,20 @@ two-issues {t} {seen = seen} x y v h =
 -- ---- each request keeps the invariant
 
 module _ {t : ℕ} {slots : List Slot} {standing : List Held} {seen : List (List ℕ)} (v : Invariant t slots standing seen) (once : NeverTwice seen)
-    (clients : ℕ) (random : List ℕ) (twenties : List (List ℕ)) (p : HandleText) where
+    (clients : ℕ) (random : List ℕ) (twenties : List (List ℕ)) (p : HandleText) (d : DigestText) where
   abbrev plan : Request → Plan
-  plan request = planFor t slots random p request
+  plan request = planFor t slots random p d request
 
-  granted-kept : (request : Request) (q : Brings clients random twenties request) → Granted t slots random p request
-      → Invariant t (plan request .granted) (heldAfter t standing clients random twenties p request q) (twenties ++ seen)
+  granted-kept : (request : Request) (q : Brings clients random twenties d request) → Granted t slots random p d request
+      → Invariant t (plan request .granted) (heldAfter t standing clients random twenties p d request q) (twenties ++ seen)
   unfolding planFor refusedPlan codePlan exchangePlan refreshPlan credentialsPlan issuedHeld keptHeld Brings count
   granted-kept (Refused r) q e = absurd (false≢true (sym (unrefused (refusedPlan t slots random r .reasons) e 0 (lit< tt))))
   granted-kept (Code r) q e =
-      rw (q .0 .handles, code-slot t (onlyOf (q .0)) r) (invariant-issue v (codeHeld t (onlyOf (q .0)) r) (one-slot t slots random p _ _ e))
+      rw (q .0 .handles, code-slot t (onlyOf (q .0)) d (q .2) r)
+      (invariant-issue v (codeHeld t (onlyOf (q .0)) (q .2) r) (one-slot t slots random p d _ _ e))
   granted-kept (Exchange r) q e =
       let o = originHeld code p standing in
-      let has = exchange-has t slots random p r e in
+      let has = exchange-has t slots random p d r e in
       let roomy : 2 ≤ room t (withSpent p slots) = omega (arith, room-spent v once p, has .1) in
       let on : Slot → ℕ → List ℕ → Slot = λ s kind handle. tokenOn s (s .handle) t kind handle (s .scope) in
       let both =
@@ -227,12 +247,12 @@ module _ {t : ℕ} {slots : List Slot} {standing : List Held} {seen : List (List
       (subst
       (λ (s : Slot). Invariant t
       (issue t (on s kindRefresh (secondHandle random)) (issue t (on s kindAccess (firstHandle random)) (withSpent p slots)))
-      (heldAfter t standing clients random twenties p (Exchange r) q) (firstHandle random ∷ secondHandle random ∷ seen))
+      (heldAfter t standing clients random twenties p d (Exchange r) q) (firstHandle random ∷ secondHandle random ∷ seen))
       (origin v once code p (has .0)) both)
   granted-kept (Refresh r) q e =
       let o = originHeld refresh p standing in
       let s = shownSlot soughtRefresh p slots in
-      let has = refresh-has t slots random p r e in
+      let has = refresh-has t slots random p d r e in
       let same-slot = origin v once refresh p (has .0) in
       let sought = and-left (isSought soughtRefresh s) (shows p s) (shown-key t slots soughtRefresh p (has .0)) in
       let token : isToken s ≡ true = ap (λ (b : Bool). eqb (s .kind) kindAccess || b) sought ∙ or-true (eqb (s .kind) kindAccess) in
@@ -240,14 +260,14 @@ module _ {t : ℕ} {slots : List Slot} {standing : List Held} {seen : List (List
       let one = invariant-issue v (tokenHeld access t (firstOf (q .0)) o (o .origin) (scopeGiven (r .scope) (o .scope))) (has .1) in
       let Kept : Slot → List ℕ → Type 0 = λ x from.
       Invariant t (issue t (tokenOn x from t kindAccess (firstHandle random) (scopeGiven (r .scope) (x .scope))) slots)
-      (heldAfter t standing clients random twenties p (Refresh r) q) (firstHandle random ∷ secondHandle random ∷ seen)
+      (heldAfter t standing clients random twenties p d (Refresh r) q) (firstHandle random ∷ secondHandle random ∷ seen)
       in
       rw (q .0 .handles)
-      (subst (λ (x : Slot). Kept x (x .origin)) same-slot
+      (subst (λ (x : Slot). Kept x (originOf x)) same-slot
       (subst (Kept (asSlot o)) (sym origin-is) (invariant-seen one (firstHandle random ∷ secondHandle random ∷ seen) (λ k. omega arith))))
   granted-kept (Credentials r) q e =
       rw (q .0 .handles)
-      (invariant-seen (invariant-issue v (clientHeld t (firstOf (q .0)) r) (one-slot t slots random p _ _ e)) _ (λ k. omega arith))
+      (invariant-seen (invariant-issue v (clientHeld t (firstOf (q .0)) r) (one-slot t slots random p d _ _ e)) _ (λ k. omega arith))
 
   denied-kept : (request : Request) → Invariant t (plan request .denied) (heldAfterRefusal t standing p request) seen
   unfolding planFor refusedPlan codePlan exchangePlan refreshPlan credentialsPlan heldAfterRefusal
@@ -262,16 +282,16 @@ module _ {t : ℕ} {slots : List Slot} {standing : List Held} {seen : List (List
   denied-kept (Refresh r) = v
   denied-kept (Credentials r) = v
 
-  pub request-kept : (request : Request) (q : Brings clients random twenties request)
+  pub request-kept : (request : Request) (q : Brings clients random twenties d request)
       → Invariant t (slotsAfter (plan request))
-      (cond (isGrant (decisionOn (plan request))) (heldAfter t standing clients random twenties p request q) (heldAfterRefusal t standing p request))
+      (cond (isGrant (decisionOn (plan request))) (heldAfter t standing clients random twenties p d request q) (heldAfterRefusal t standing p request))
       (twenties ++ seen)
   unfolding slotsBy isGrant
   request-kept request q = by (decisionOn (plan request)) (granted-kept request q)
     where
-      by : (d : Decision) → (isGrant d ≡ true → Invariant t (plan request .granted) (heldAfter t standing clients random twenties p request q) (twenties ++ seen))
-          → Invariant t (slotsBy d (plan request))
-          (cond (isGrant d) (heldAfter t standing clients random twenties p request q) (heldAfterRefusal t standing p request)) (twenties ++ seen)
+      by : (made : Decision) → (isGrant made ≡ true → Invariant t (plan request .granted) (heldAfter t standing clients random twenties p d request q) (twenties ++ seen))
+          → Invariant t (slotsBy made (plan request))
+          (cond (isGrant made) (heldAfter t standing clients random twenties p d request q) (heldAfterRefusal t standing p request)) (twenties ++ seen)
       by Grant f = f refl
       by (Refuse r) f = invariant-seen (denied-kept request) (twenties ++ seen) (λ h. omega (arith, count-append (same h) twenties seen))
 
@@ -295,9 +315,11 @@ four-tests : (l c m r : Bool) {n x : Bool} → n ≡ m → x ≡ false
 four-tests l c m r p q = rw (p, q) (simp (Bool·not-not, and-true, and-assoc))
 
 -- what an exchange, and a refresh, needs of a thing issued
-abbrev pub isExchangeableHeld : ℕ → HandleText → ExchangeRequest → Held → Bool
-isExchangeableHeld t p r e =
-    isLive t (asSlot e) && (soughtKey soughtCode p (asSlot e) && (eqb (e .client) (r .client) && (not (isBoundCode (asSlot e)) || r .again)))
+abbrev pub isExchangeableHeld : ℕ → HandleText → DigestText → ExchangeRequest → Held → Bool
+isExchangeableHeld t p d r e =
+    isLive t (asSlot e)
+    && (soughtKey soughtCode p (asSlot e)
+    && (eqb (e .client) (r .client) && (not (isBoundCode (asSlot e)) || r .again) && not (isUnverified d (asSlot e))))
 
 abbrev pub isRefreshableHeld : ℕ → HandleText → RefreshRequest → Held → Bool
 isRefreshableHeld t p r e =
@@ -329,24 +351,35 @@ module _ {t : ℕ} {slots : List Slot} {standing : List Held} {seen : List (List
 
     -- ---- what each request is answered
 
-    pub exchange-answer : (r : ExchangeRequest) → isGrant (decisionOn (planFor t slots random p (Exchange r)))
-        ≡ (any (isExchangeableHeld t p r) standing && leb (count (λ e. isLive t (asSlot e)) standing + 2) 512)
+    pub exchange-answer : (d : DigestText) (r : ExchangeRequest) → isGrant (decisionOn (planFor t slots random p d (Exchange r)))
+        ≡ (any (isExchangeableHeld t p d r) standing && leb (count (λ e. isLive t (asSlot e)) standing + 2) 512)
     unfolding planFor exchangePlan every
-    exchange-answer r =
-        grant-every (exchangePlan t slots random p r .reasons)
-        ∙ four-tests (isLive t s) (eqb (s .client) (r .client)) (not (isBoundCode s) || r .again) _ (not-or (isBoundCode s) (r .again)) none-taken
-        ∙ ap₂ _&&_ (sym there) (room-for 2)
+    exchange-answer d r =
+        grant-every (exchangePlan t slots random p d r .reasons)
+        ∙ ap (λ (b : Bool). not (not (isLive t s && mine s)) && b) (sym (and-assoc (not (isBoundCode s && not (r .again))) (verified s) _))
+        ∙ four-tests (isLive t s) (mine s) (repeats s && verified s) _
+        (ap (λ (b : Bool). b && verified s) (not-or (isBoundCode s) (r .again))) none-taken
+        ∙ ap₂ _&&_ (ap (λ (b : Bool). isLive t s && b) (sym (and-assoc (mine s) (repeats s) (verified s))) ∙ sym there) (room-for 2)
       where
         s : Slot
         s = shownSlot soughtCode p slots
 
-        there : any (isExchangeableHeld t p r) standing ≡ (isLive t s && (eqb (s .client) (r .client) && (not (isBoundCode s) || r .again)))
-        there = contained v once code p (λ x. eqb (x .client) (r .client) && (not (isBoundCode x) || r .again))
+        mine : Slot → Bool
+        mine x = eqb (x .client) (r .client)
 
-    pub refresh-answer : (r : RefreshRequest) → isGrant (decisionOn (planFor t slots random p (Refresh r)))
+        repeats : Slot → Bool
+        repeats x = not (isBoundCode x) || r .again
+
+        verified : Slot → Bool
+        verified x = not (isUnverified d x)
+
+        there : any (isExchangeableHeld t p d r) standing ≡ (isLive t s && (mine s && repeats s && verified s))
+        there = contained v once code p (λ x. mine x && repeats x && verified x)
+
+    pub refresh-answer : (d : DigestText) (r : RefreshRequest) → isGrant (decisionOn (planFor t slots random p d (Refresh r)))
         ≡ (any (isRefreshableHeld t p r) standing && leb (count (λ e. isLive t (asSlot e)) standing + 1) 512)
     unfolding planFor refreshPlan every
-    refresh-answer r =
+    refresh-answer d r =
         grant-every (refreshPlan t slots random p r .reasons)
         ∙ four-tests (isLive t s) (eqb (s .client) (r .client)) (fits (r .scope) (s .scope)) _ (Bool·not-not _) first-unused
         ∙ ap₂ _&&_ (sym there) (room-for 1)
@@ -357,10 +390,10 @@ module _ {t : ℕ} {slots : List Slot} {standing : List Held} {seen : List (List
         there : any (isRefreshableHeld t p r) standing ≡ (isLive t s && (eqb (s .client) (r .client) && fits (r .scope) (s .scope)))
         there = contained v once refresh p (λ x. eqb (x .client) (r .client) && fits (r .scope) (x .scope))
 
-    pub credentials-answer : (r : CredentialsRequest) → isGrant (decisionOn (planFor t slots random p (Credentials r)))
+    pub credentials-answer : (d : DigestText) (r : CredentialsRequest) → isGrant (decisionOn (planFor t slots random p d (Credentials r)))
         ≡ leb (count (λ e. isLive t (asSlot e)) standing + 1) 512
     unfolding planFor credentialsPlan every
-    credentials-answer r =
+    credentials-answer d r =
         grant-every (credentialsPlan t slots random r .reasons) ∙ rw first-unused (simp (Bool·not-not, and-true)) ∙ room-for 1
 
   -- ---- the check

@@ -17,6 +17,7 @@ use Rattle.octets.specs.Lists.{every, Bytes}
 use Rattle.octets.proofs.Lists.{every-at, take-bytes, drop-bytes}
 use Rattle.octets.proofs.Booleans.{of-T, or-none, both-ways, implied, implies}
 use Rattle.octets.proofs.Table.{at}
+use Rattle.encoding.specs.declared.DigestText.{DigestText}
 use Rattle.form.specs.Content.{Value, missing, once, repeated, formValue, isMissing, isRepeated, onlyValue, isOnce}
 use Rattle.scope.specs.Set.{has, isWithin, ofByte}
 use Rattle.scope.specs.Value.{readScope}
@@ -35,14 +36,15 @@ use Rattle.protocol.specs.declared.Request.{Request}
 use Rattle.protocol.specs.declared.Request.the-variants.{Refused, Code, Exchange, Refresh, Credentials}
 use Rattle.protocol.specs.declared.Reading.{Reading}
 use Rattle.protocol.specs.Limits.{codeRandom, tokenRandom}
-use Rattle.protocol.specs.Requests.{askedBy, scopeAsked, fits, scopeGiven, presentingNone, unlessRefused}
-use Rattle.protocol.specs.Authorization.{queryClient, isBadClient, codeAsked, pageReasons, redirectReasons, readAuthorization}
+use Rattle.protocol.specs.Requests.{askedBy, scopeAsked, fits, scopeGiven, unlessRefused}
+use Rattle.protocol.specs.Authorization.{queryClient, isBadClient, codeAsked, codeReading, pageReasons, redirectReasons, readAuthorization}
 use Rattle.protocol.specs.ClientForms.{cameWith, isBadHeader, isUnclearId, isImpostor, presentedId, callClient, isInvalidClient, formReasons}
 use Rattle.protocol.specs.Token.{tokenNames, readExchange, readRefresh, readCredentials, readGrant, readToken}
 use Rattle.protocol.specs.Granting.{firstHandle, secondHandle}
 use Rattle.protocol.proofs.Reasons.{unrefused, decided}
 use Rattle.history.specs.Server.{isUnfitRefusal}
 use Rattle.history.specs.Contents.{noneBeyond, isWithinGranted, namesOr, askedOr, lastTwenty}
+use Rattle.history.proofs.Challenges.{FitChallenge, given-fits}
 use Rattle.history.proofs.HeldIssues.{Handle}
 
 -- ---- scope sets
@@ -163,18 +165,22 @@ pub record FieldsFit (clients number farm set : ℕ) : Type 0 where
   pub wide : farm < 2 ^ 32
   pub scope : ScopeSet set
 
-module _ (clients : ℕ) (random : List ℕ) (twenties : List (List ℕ)) where
+module _ (clients : ℕ) (random : List ℕ) (twenties : List (List ℕ)) (d : DigestText) where
   unfoldable pub Brings : Request → Type 0
   Brings (Refused r) = isUnfitRefusal r ≡ false
-  Brings (Code r) = OneHandle random twenties × FieldsFit clients (r .client) (r .farm) (r .scope)
+  Brings (Code r) = OneHandle random twenties × FieldsFit clients (r .client) (r .farm) (r .scope) × FitChallenge d
   Brings (Exchange r) = TwoHandles random twenties
   Brings (Refresh r) = TwoHandles random twenties × AskedSet (r .scope)
   Brings (Credentials r) = TwoHandles random twenties × FieldsFit clients (r .client) 0 (r .scope)
 
-  abbrev BringsUnless : Reading → Decision → Type 0
-  BringsUnless reading d = Brings (unlessRefused d reading .request)
+module _ (clients : ℕ) (random : List ℕ) (twenties : List (List ℕ)) where
+  abbrev pub BringsAs : Reading → Type 0
+  BringsAs reading = Brings clients random twenties (reading .challenge) (reading .request)
 
-  brings-either : (b : Bool) (x y : Reading) → Brings (x .request) → Brings (y .request) → Brings (cond b x y .request)
+  abbrev BringsUnless : Reading → Decision → Type 0
+  BringsUnless reading d = BringsAs (unlessRefused d reading)
+
+  brings-either : (b : Bool) (x y : Reading) → BringsAs x → BringsAs y → BringsAs (cond b x y)
   brings-either true x y p q = p
   brings-either false x y p q = q
 
@@ -190,19 +196,19 @@ module _ (clients : List Client) where
 
   pub authorization-brings : FitClients clients → {random : List ℕ} {twenties : List (List ℕ)} → OneHandle random twenties
       → (query : List ℕ) (decision farm : ℕ) → farm < 2 ^ 32
-      → Brings (length clients) random twenties (readAuthorization clients query decision farm .request)
+      → BringsAs (length clients) random twenties (readAuthorization clients query decision farm)
   unfolding readAuthorization pageReasons redirectReasons unlessRefused isUnfitRefusal Brings codeAsked
   authorization-brings fit {random} {twenties} one query decision farm wide =
       let number = queryClient clients query in
       let client = clientAt clients number in
       let rs = pageReasons clients query ++ redirectReasons client query decision farm in
-      decided (BringsUnless (length clients) random twenties (presentingNone (Code (codeAsked clients query farm)))) rs
+      decided (BringsUnless (length clients) random twenties (codeReading clients query farm)) rs
       (refl, (refl, (refl, (refl, (refl, (refl, (refl, tt)))))))
       (λ granted.
       let known = client-known query (unrefused rs granted 1 (lit< tt)) in
       let asks = formValue query (bytes "scope") in
       let set = scope-given (scopeAsked asks) (client .scope) (scope-asked asks) (fit .scope number known) in
-      (one, record { client = known; wide = wide; scope = set }))
+      (one, record { client = known; wide = wide; scope = set }, given-fits (formValue query (bytes "code_challenge"))))
 
   caller-known : (header body : List ℕ) → isInvalidClient clients header body ≡ false → callClient clients header body < length clients
   unfolding isInvalidClient callClient
@@ -214,7 +220,7 @@ module _ (clients : List Client) where
       ltb-true (numberOf (presentedId header body) clients) (length clients) (not-false known (or-none before (not known) (e₁ .0) .1))
 
   pub token-brings : FitClients clients → {random : List ℕ} {twenties : List (List ℕ)} → TwoHandles random twenties
-      → (header body : List ℕ) → Brings (length clients) random twenties (readToken clients header body .request)
+      → (header body : List ℕ) → BringsAs (length clients) random twenties (readToken clients header body)
   unfolding readToken readGrant readExchange readRefresh readCredentials formReasons unlessRefused isUnfitRefusal Brings
   token-brings fit {random} {twenties} two header body =
       let grant = formValue body (bytes "grant_type") in

@@ -19,6 +19,7 @@ use Rattle.encoding.specs.Hex.{readHandle, isHandleText}
 use Rattle.form.specs.Content.{Value, missing, once, repeated, formValue, isMissing, onlyValue}
 use Rattle.client_registry.specs.Registry.{Client}
 use Rattle.client_registry.specs.Lookup.{clientAt}
+use Rattle.encoding.specs.declared.DigestText.{DigestText}
 use Rattle.encoding.specs.declared.HandleText.{HandleText}
 use Rattle.token_store.specs.Store.{freeSlot, isLive, isSought, soughtKey, withoutTokens, comesFrom}
 use Rattle.token_store.specs.declared.Slot.{Slot}
@@ -33,8 +34,8 @@ use Rattle.protocol.specs.declared.Reading.{Reading}
 use Rattle.protocol.specs.declared.ErrorWord.the-variants.{InvalidRequest, InvalidClient, InvalidGrant}
 use Rattle.protocol.specs.declared.Refusal.the-variants.{Token}
 use Rattle.protocol.specs.Refusals.{when, firstOf}
-use Rattle.protocol.specs.Requests.{presentingNone, unlessRefused}
-use Rattle.protocol.specs.Authorization.{queryClient, codeAsked, pageReasons, redirectReasons, readAuthorization}
+use Rattle.protocol.specs.Requests.{unlessRefused}
+use Rattle.protocol.specs.Authorization.{queryClient, codeReading, pageReasons, redirectReasons, readAuthorization}
 use Rattle.protocol.specs.ClientForms.{isInvalidForm, isInvalidClient, callClient, formReasons}
 use Rattle.protocol.specs.Token.{tokenNames, readToken}
 use Rattle.protocol.specs.Granting.{shownSlot, isOwn, isShownAgain, decisionOn, refusedPlan, codePlan, exchangePlan, refreshPlan, credentialsPlan, planFor, planOf}
@@ -100,7 +101,7 @@ module _ (clients : List Client) where
       let client = clientAt clients (queryClient clients query) in
       other (authorization query decision farm handed) (by (firstOf (pageReasons clients query ++ redirectReasons client query decision farm))) refl
     where
-      by : (d : Decision) → isExchangeRequest (unlessRefused d (presentingNone (Code (codeAsked clients query farm))) .request) ≡ false
+      by : (d : Decision) → isExchangeRequest (unlessRefused d (codeReading clients query farm) .request) ≡ false
       by Grant = refl
       by (Refuse r) = refl
   shown-by (check presented clock) = other (check presented clock) refl refl
@@ -224,14 +225,14 @@ module _ (clients : List Client) (held : List Held) (t : ℕ) where
 -- ---- by the slots
 
 -- what a refusal of a request that is no exchange leaves
-unread-denied : (t : ℕ) (slots : List Slot) (random : List ℕ) (p : HandleText) (request : Request) → isExchangeRequest request ≡ false
-    → planFor t slots random p request .denied ≡ slots
+unread-denied : (t : ℕ) (slots : List Slot) (random : List ℕ) (p : HandleText) (d : DigestText) (request : Request)
+    → isExchangeRequest request ≡ false → planFor t slots random p d request .denied ≡ slots
 unfolding planFor refusedPlan codePlan exchangePlan refreshPlan credentialsPlan
-unread-denied t slots random p (Refused r) e = refl
-unread-denied t slots random p (Code r) e = refl
-unread-denied t slots random p (Exchange r) e = absurd (false≢true (sym e))
-unread-denied t slots random p (Refresh r) e = refl
-unread-denied t slots random p (Credentials r) e = refl
+unread-denied t slots random p d (Refused r) e = refl
+unread-denied t slots random p d (Code r) e = refl
+unread-denied t slots random p d (Exchange r) e = absurd (false≢true (sym e))
+unread-denied t slots random p d (Refresh r) e = refl
+unread-denied t slots random p d (Credentials r) e = refl
 
 module _ (clients : List Client) (t : ℕ) (slots : List Slot) where
   -- the call shows a spent code again
@@ -274,7 +275,7 @@ module _ (clients : List Client) (t : ℕ) (slots : List Slot) where
       by : {c : Call} → ShownBy clients c
           → planOf t slots random (asked clients c) .denied ≡ cond (isAgain c) (withoutTokens (readHandle (codeShown c) .bytes) slots) slots
       by (other c unread none) =
-          unread-denied t slots random (asked clients c .presented) (asked clients c .request) unread
+          unread-denied t slots random (asked clients c .presented) (asked clients c .challenge) (asked clients c .request) unread
           ∙ ap (λ (b : Bool). cond b (withoutTokens (readHandle (codeShown c) .bytes) slots) slots) (sym (unshown-again c none))
       by (showing header body handed a x read) = exchange-denied random header body handed a x read
 

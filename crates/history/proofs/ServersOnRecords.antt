@@ -367,13 +367,13 @@ module _ {server : Server} {m : Model} (f : Follows server m) (cs : List Call) (
       let after = m .left g c in
       let h = each (spendsSlot k c (resultAfter c) g after i) e in
       let sound = followed .sound in
-      let was = part (storeAfterAll server sampleRegistry freshStore cs) (8 + i * 55) 55 in
+      let was = part (storeAfterAll server sampleRegistry freshStore cs) (8 + i * 67) 67 in
       let refused = ap (λ (r : Result). r .granted) (result-is c t (h 0)) ∙ not-true (resultAfter c .granted) (h 3) in
       let second : List Client → Contents → Bool = λ clients x. isSecondShowing clients (max (handedTo c .clock) (x .highest)) (x .standing) c in
       let none = ap₂ second sample-clients contained-is ∙ not-true (second sampleClients k) (h 4) in
       let kept : slotBytes (encode g) i ≡ slotBytes (encode after) i =
       sym (ap (λ (b : List ℕ). slotBytes b i) (ap (λ (b : List ℕ). storeAfterAll server sampleRegistry b cs) fresh-bytes ∙ followed .same-store))
-      ∙ sym (d .spendsNothing c (judged c t (h 0) (h 1) (h 2)) refused i (omega (arith, below)) ∙ ap (λ (b : Bool). cond (b && holdsTokenFrom (codeShown c) was) (replicate 55 0) was) none)
+      ∙ sym (d .spendsNothing c (judged c t (h 0) (h 1) (h 2)) refused i (omega (arith, below)) ∙ ap (λ (b : Bool). cond (b && holdsTokenFrom (codeShown c) was) (replicate 67 0) was) none)
       ∙ ap (λ (b : List ℕ). slotBytes b i) (ap (λ (r : Result). r .store) (result-is c t (h 0)) ∙ f .stores g sound c (h 0))
       in
       let same-slot = slot-back g sound i below ∙ ap decodeSlot kept ∙ sym (slot-back after (f .sounds g sound c t (h 0)) i below) in

@@ -20,6 +20,7 @@ use Rattle.octets.proofs.Booleans.{or-none}
 use Rattle.octets.proofs.Lists.{same-eq}
 use Rattle.octets.proofs.Counting.{firstOr-map}
 use Rattle.encoding.specs.Hex.{hexText, readHandle}
+use Rattle.encoding.specs.Base64.{url, base64Text}
 use Rattle.encoding.proofs.Hex.{hex-length}
 use Rattle.form.specs.Content.{Value, missing, once, repeated, formValue, isMissing, isRepeated, isOnce, onlyValue}
 use Rattle.scope.specs.Value.{scopeText}
@@ -34,12 +35,11 @@ use Rattle.protocol.specs.declared.Refusal.{Refusal}
 use Rattle.protocol.specs.declared.Refusal.the-variants.{ErrorPage}
 use Rattle.protocol.specs.declared.Decision.{Decision}
 use Rattle.protocol.specs.declared.Decision.the-variants.{Grant, Refuse}
-use Rattle.protocol.specs.declared.Request.the-variants.{Code}
 use Rattle.protocol.specs.declared.Reading.{Reading}
 use Rattle.protocol.specs.Answers.{isGrant}
 use Rattle.protocol.specs.Refusals.{Reason, firstOf as firstReason}
-use Rattle.protocol.specs.Requests.{presentingNone, refusedReading, unlessRefused}
-use Rattle.protocol.specs.Authorization.{queryClient, isBadClient, isBadRedirect, codeAsked, pageReasons, redirectReasons, readAuthorization, separator, stateText, location, codeParameter, locationText}
+use Rattle.protocol.specs.Requests.{refusedReading, unlessRefused}
+use Rattle.protocol.specs.Authorization.{queryClient, isBadClient, isBadRedirect, isBadState, isInvalidRequest, challengeGiven, codeAsked, codeReading, pageReasons, redirectReasons, readAuthorization, separator, stateText, location, codeParameter, locationText}
 use Rattle.protocol.specs.ClientForms.{callClient}
 use Rattle.protocol.specs.Token.{readToken, tokenReply, refreshMember}
 use Rattle.protocol.specs.Granting.{firstHandle, secondHandle, Plan, refusedPlan, exchangePlan, planFor, planOf, decisionOn}
@@ -48,10 +48,11 @@ use Rattle.protocol.proofs.Reasons.{unrefused}
 use Rattle.protocol.proofs.Lengths.{separator-length}
 use Rattle.history.specs.Calls.{Call, authorization, token, check, handedTo, Result}
 use Rattle.history.specs.Server.{resultOf}
-use Rattle.history.specs.Contents.{Sort, code, spent, access, refresh, Issue, isA, isOf, noIssue, originOf, valueOf, isExchange, isRefresh, isCredentials, askedOr, lifetime, fortyAt, codeIn, accessIn, refreshIn, codeIssue, tokenIssue, exchangeIssues, refreshIssues, ownIssue, issuedBy, isSpentBy, asSpent, afterGrant, isWithdrawnBy, standingAfter, twenties}
-use Rattle.history.proofs.HeldIssues.{Handle, Held, asSlot, asIssue, turned, noneHeld, issue-key}
+use Rattle.history.specs.Contents.{Sort, code, access, refresh, Issue, isA, isOf, noIssue, originOf, valueOf, isExchange, isRefresh, isCredentials, askedOr, lifetime, fortyAt, codeIn, accessIn, refreshIn, codeIssue, tokenIssue, exchangeIssues, refreshIssues, ownIssue, issuedBy, isSpentBy, asSpent, afterGrant, isWithdrawnBy, standingAfter, twenties}
+use Rattle.history.proofs.Challenges.{FitChallenge, challenge-shown}
+use Rattle.history.proofs.HeldIssues.{Handle, Held, asSlot, asIssue, spentHeld, noneHeld, issue-key}
 use Rattle.history.proofs.Invariant.{originHeld, spendHeld}
-use Rattle.history.proofs.Readings.{given-asked, onlyOf, firstOf, secondOf, Brings}
+use Rattle.history.proofs.Readings.{given-asked, onlyOf, firstOf, secondOf, Brings, BringsAs}
 use Rattle.history.proofs.OneRequest.{codeHeld, tokenHeld, clientHeld, issuedHeld, keptHeld, heldAfter, heldAfterRefusal}
 use Rattle.history.proofs.Asking.{caller-is, exchangeReading, refreshReading, credentialsReading, ReadAs, refusedAs, exchangeAs, refreshAs, credentialsAs, token-read}
 use Rattle.history.proofs.AnyCall.{outcomeOn, asked, unfitTo, planOn, granted-on}
@@ -206,9 +207,6 @@ module _ (clients : List Client) (short : (n : ℕ) → length (clientAt clients
     abbrev reasons : List Reason
     reasons = pageReasons clients query ++ redirectReasons (clientAt clients number) query decision farm
 
-    abbrev codeReading : Reading
-    codeReading = presentingNone (Code (codeAsked clients query farm))
-
     -- an address that was given is the client's
     address-given : firstReason reasons ≡ Grant
         → let given = formValue query (bytes "redirect_uri") in
@@ -221,6 +219,17 @@ module _ (clients : List Client) (short : (n : ℕ) → length (clientAt clients
         let named = isRepeated id || isMissing id || not (isKnown (onlyValue id) clients) in
         own-address (clientAt clients number .redirect) given (or-none named (isRepeated given) (unrefused reasons passed 1 (lit< tt)) .1)
         (unrefused reasons passed 2 (lit< tt))
+
+    -- the challenge that was given is what was read
+    challenge-given : firstReason reasons ≡ Grant
+        → let given = challengeGiven (formValue query (bytes "code_challenge")) in
+        formValue query (bytes "code_challenge") ≡ cond (given .valid) (once (base64Text url (given .bytes))) missing
+    unfolding pageReasons redirectReasons isInvalidRequest isGrant
+    challenge-given e =
+        let type = formValue query (bytes "response_type") in
+        let others = isMissing type || isRepeated type || isRepeated (formValue query (bytes "scope")) || isBadState (formValue query (bytes "state")) in
+        challenge-shown (clientAt clients number) _ (formValue query (bytes "code_challenge_method"))
+        (or-none others _ (unrefused reasons (ap isGrant e) 3 (lit< tt)) .1)
 
     pub code-text : unfitTo authorizes ≡ false → IsGranted t (g .slots) (handed .random) (readAuthorization clients query decision farm)
         → length (firstHandle (handed .random)) ≡ 20
@@ -236,13 +245,15 @@ module _ (clients : List Client) (short : (n : ℕ) → length (clientAt clients
         ∙ code-part redirect first state size
 
     code-issued : unfitTo authorizes ≡ false → IsGranted t (g .slots) (handed .random) (readAuthorization clients query decision farm)
-        → (h : Handle) → h .octets ≡ firstHandle (handed .random)
-        → codeIssue clients t query farm (result authorizes) ≡ asIssue clients (codeHeld t h (codeAsked clients query farm))
+        → (h : Handle) → h .octets ≡ firstHandle (handed .random) → (f : FitChallenge (codeReading clients query farm .challenge))
+        → codeIssue clients t query farm (result authorizes) ≡ asIssue clients (codeHeld t h f (codeAsked clients query farm))
     unfolding codeIssue codeAsked queryClient readAuthorization
-    code-issued fit granted h e =
+    code-issued fit granted h e f =
         let text = code-text fit granted (ap length (sym e) ∙ h .size) ∙ ap hexText (sym e) in
         let scope = sym (given-asked (formValue query (bytes "scope")) (clientAt clients number .scope)) in
-        let address = address-given (unless-granted t (g .slots) (handed .random) (firstReason reasons) codeReading granted) in
+        let unrefused = unless-granted t (g .slots) (handed .random) (firstReason reasons) (codeReading clients query farm) granted in
+        let address = address-given unrefused in
+        let challenge = challenge-given unrefused in
         λ i. record {
           sort = code;
           text = text i;
@@ -250,6 +261,7 @@ module _ (clients : List Client) (short : (n : ℕ) → length (clientAt clients
           farm = farm;
           scope = scope i;
           address = address i;
+          challenge = challenge i;
           expiry = t + lifetime code;
           origin = text i;
         }
@@ -257,18 +269,18 @@ module _ (clients : List Client) (short : (n : ℕ) → length (clientAt clients
     -- what stands after it
     abbrev CodeStands : Reading → Type 0
     CodeStands reading =
-        (q : Brings (length clients) (handed .random) (twenties authorizes) (reading .request))
+        (q : BringsAs (length clients) (handed .random) (twenties authorizes) reading)
         → codeIssue clients t query farm (result authorizes) ∷ map (afterGrant authorizes) (issues clients held)
         ≡ map (asIssue clients)
-        (heldAfter t held (length clients) (handed .random) (twenties authorizes) (reading .presented) (reading .request) q)
+        (heldAfter t held (length clients) (handed .random) (twenties authorizes) (reading .presented) (reading .challenge) (reading .request) q)
 
     code-stands : unfitTo authorizes ≡ false → IsGranted t (g .slots) (handed .random) (readAuthorization clients query decision farm)
         → CodeStands (readAuthorization clients query decision farm)
     unfolding readAuthorization unlessRefused isSpentBy issuedHeld keptHeld Brings
     code-stands fit granted =
-        subst (λ (d : Decision). CodeStands (unlessRefused d codeReading))
-        (sym (unless-granted t (g .slots) (handed .random) (firstReason reasons) codeReading granted))
-        (λ q. ap₂ {C = List Issue} (λ e es. e ∷ es) (code-issued fit granted (onlyOf (q .0)) refl)
+        subst (λ (d : Decision). CodeStands (unlessRefused d (codeReading clients query farm)))
+        (sym (unless-granted t (g .slots) (handed .random) (firstReason reasons) (codeReading clients query farm) granted))
+        (λ q. ap₂ {C = List Issue} (λ e es. e ∷ es) (code-issued fit granted (onlyOf (q .0)) refl (q .2))
         (stays clients held (afterGrant authorizes) (λ e. refl)))
 
   -- ---- tokens
@@ -317,9 +329,9 @@ module _ (clients : List Client) (short : (n : ℕ) → length (clientAt clients
 
     abbrev Stands : Reading → Type 0
     Stands reading =
-        GrantedAs reading → (q : Brings (length clients) (handed .random) (twenties asks) (reading .request))
+        GrantedAs reading → (q : BringsAs (length clients) (handed .random) (twenties asks) reading)
         → issuedBy clients at (issues clients held) asks (result asks) ++ map (afterGrant asks) (issues clients held)
-        ≡ map (asIssue clients) (heldAfter at held (length clients) (handed .random) (twenties asks) (reading .presented) (reading .request) q)
+        ≡ map (asIssue clients) (heldAfter at held (length clients) (handed .random) (twenties asks) (reading .presented) (reading .challenge) (reading .request) q)
 
     -- the code that is presented is spent
     code-spent : isExchange body ≡ true → (e : Held)
@@ -327,7 +339,7 @@ module _ (clients : List Client) (short : (n : ℕ) → length (clientAt clients
     unfolding isSpentBy
     code-spent is e = rw (is, issue-key clients code (valueOf body (bytes "code")) e) (by (soughtKey soughtCode (readHandle (valueOf body (bytes "code"))) (asSlot e)))
       where
-        by : (b : Bool) → cond b (asSpent (asIssue clients e)) (asIssue clients e) ≡ asIssue clients (cond b (turned e spent (e .bound)) e)
+        by : (b : Bool) → cond b (asSpent (asIssue clients e)) (asIssue clients e) ≡ asIssue clients (cond b (spentHeld e) e)
         by true = refl
         by false = refl
 
@@ -391,25 +403,26 @@ module _ (clients : List Client) (short : (n : ℕ) → length (clientAt clients
   -- ---- any call
 
   granted-shown : (c : Call) → unfitTo c ≡ false
-      → (q : Brings (length clients) (handedTo c .random) (twenties c) (asked clients c .request))
+      → (q : BringsAs (length clients) (handedTo c .random) (twenties c) (asked clients c))
       → isGrant (decisionOn (planOn clients g c)) ≡ true
       → let time = callTime g (handedTo c .clock) in
       issuedBy clients time (issues clients held) c (result c) ++ map (afterGrant c) (issues clients held)
       ≡ map (asIssue clients)
-      (heldAfter time held (length clients) (handedTo c .random) (twenties c) (asked clients c .presented) (asked clients c .request) q)
+      (heldAfter time held (length clients) (handedTo c .random) (twenties c) (asked clients c .presented) (asked clients c .challenge)
+      (asked clients c .request) q)
   unfolding issuedBy handedTo asked
   granted-shown (authorization query decision farm handed) fit q e = code-stands query decision farm handed fit e q
   granted-shown (token header body handed) fit q e = token-stands header body handed fit e q
   granted-shown (check presented clock) fit q e = never-refused (callTime g clock) (g .slots) [] (ErrorPage Query) e
 
   pub standing-shown : (c : Call) → unfitTo c ≡ false
-      → (q : Brings (length clients) (handedTo c .random) (twenties c) (asked clients c .request))
+      → (q : BringsAs (length clients) (handedTo c .random) (twenties c) (asked clients c))
       → let time = callTime g (handedTo c .clock) in
       let reading = asked clients c in
       standingAfter clients time (issues clients held) c (result c)
       ≡ map (asIssue clients)
       (cond (isGrant (decisionOn (planOn clients g c)))
-      (heldAfter time held (length clients) (handedTo c .random) (twenties c) (reading .presented) (reading .request) q)
+      (heldAfter time held (length clients) (handedTo c .random) (twenties c) (reading .presented) (reading .challenge) (reading .request) q)
       (heldAfterRefusal time held (reading .presented) (reading .request)))
   unfolding standingAfter
   standing-shown c fit q =
@@ -421,7 +434,7 @@ module _ (clients : List Client) (short : (n : ℕ) → length (clientAt clients
       after : List Held
       after =
           heldAfter time held (length clients) (handedTo c .random) (twenties c) (asked clients c .presented)
-          (asked clients c .request) q
+          (asked clients c .challenge) (asked clients c .request) q
 
       afterRefusal : List Held
       afterRefusal = heldAfterRefusal time held (asked clients c .presented) (asked clients c .request)

@@ -7,26 +7,27 @@
 use mathlib.Core.Path.{_≡_, refl, sym, ap, _∙_}
 use mathlib.Core.Bool.{Bool, true, false, cond, _||_}
 use mathlib.Core.List.{List, [], _∷_, map}
-use Prim.Native.Nat.{ℕ, suc, _+_, _*_, _^_, _≤_, _<_}
+use Prim.Native.Nat.{ℕ, suc, _+_, _-_, _*_, _^_, _≤_, _<_}
 use native.Mathlib.Omega.{arith}
 use lib.Dec.{ltb, lit≤, lit<}
-use lib.ListN.{length, take, drop, getD, replicate, length-drop, length-replicate}
+use lib.ListN.{length, take, drop, getD, replicate, length-append, length-drop, length-replicate}
 use lib.Seq.{drop-at, drop-drop, length-take-le}
 use Rattle.octets.specs.Lists.{part, Bytes, every, isZero}
 use Rattle.octets.specs.BigEndian.{bigEndianBytes}
 use Rattle.octets.proofs.BigEndian.{length-be-bytes}
 use Rattle.octets.proofs.Booleans.{and-left}
 use Rattle.octets.proofs.Lists.{each-replicate, zero-bytes}
+use Rattle.encoding.specs.declared.DigestText.{DigestText}
 use Rattle.encoding.specs.declared.HandleText.{HandleText}
-use Rattle.token_store.specs.Layout.{timeSize, slotCount, handleSize, expirySize, slotSize, storeSize, slotStart, latestTime}
+use Rattle.token_store.specs.Layout.{timeSize, slotCount, handleSize, linkSize, expirySize, slotSize, storeSize, slotStart, latestTime}
 use Rattle.octets.specs.Search.{firstOr, replaceAll}
-use Rattle.token_store.specs.Store.{issue, Store, SlotFits, SlotsFit, kindLast, isUsed, isToken, isTokenKind, isSought, isLive, isVacant, freeSlot, spentCode, fresh, concat, encodeSlot, decodeSlot, encode, decode, shows, soughtKey, comesFrom, withoutTokens}
-use Rattle.token_store.specs.Fit.{fitSlot, fitStore}
+use Rattle.token_store.specs.Store.{issue, Store, SlotFits, SlotsFit, kindAccess, kindRefresh, kindLast, isUsed, isToken, isLive, isVacant, linkTo, originOf, freeSlot, spentCode, fresh, concat, encodeSlot, decodeSlot, encode, decode, soughtKey, comesFrom, withoutTokens}
+use Rattle.token_store.specs.Fit.{fitLink, fitSlot, fitStore}
 use Rattle.token_store.specs.declared.Slot.{Slot}
 use Rattle.token_store.specs.declared.Sought.{Sought}
 use Rattle.token_store.specs.declared.Sought.the-variants.{Code as soughtCode, Refresh as soughtRefresh}
 use Rattle.octets.proofs.Searches.{every-each, each-every, replaceFirst-each, replaceAll-at, replaceAll-each}
-use Rattle.token_store.proofs.Slots.{slot-back, free-bytes, free-fits, code-fails}
+use Rattle.token_store.proofs.Slots.{slot-back, free-bytes, free-fits}
 use Rattle.token_store.proofs.Codec.{length-slots, slots-fit, encode-decode, decode-encode, piece-at, decode-fresh}
 use Rattle.token_store.proofs.Fits.{fit-used, used-fit, fit-free, fit-size, fit-time, fit-slots, fit-encode}
 use Rattle.protocol.specs.declared.Decision.{Decision}
@@ -35,10 +36,11 @@ use Rattle.protocol.specs.declared.CodeRequest.{CodeRequest}
 use Rattle.protocol.specs.declared.Request.{Request}
 use Rattle.protocol.specs.declared.Request.the-variants.{Refused, Code, Exchange, Refresh, Credentials}
 use Rattle.protocol.specs.Answers.{isGrant}
-use Rattle.protocol.specs.Granting.{Plan, firstHandle, shownSlot, isShownAgain, newCode, refusedPlan, codePlan, exchangePlan, refreshPlan, credentialsPlan, planFor, decisionOn, slotsBy, slotsAfter}
+use Rattle.protocol.specs.Granting.{Plan, firstHandle, shownSlot, isShownAgain, newCode, tokenOn, refusedPlan, codePlan, exchangePlan, refreshPlan, credentialsPlan, planFor, decisionOn, slotsBy, slotsAfter}
 use Rattle.octets.proofs.Counting.{length-replaceFirst, length-replaceAll}
+use Rattle.history.proofs.Challenges.{FitChallenge}
 use Rattle.history.proofs.Readings.{FieldsFit, scope-given, Brings}
-use Rattle.history.proofs.OneRequest.{shown-key, Granted, exchange-has, refresh-has}
+use Rattle.history.proofs.OneRequest.{Granted, exchange-has, refresh-has}
 
 -- ---- a slot
 
@@ -46,14 +48,21 @@ pub record SoundSlot (clients : ℕ) (s : Slot) : Type 0 where
   pub fits : SlotFits s
   pub fit : fitSlot clients s ≡ true
 
+abbrev pub SoundLink : Slot → Type 0
+SoundLink s = (length (s .link) ≡ linkSize) × (fitLink s ≡ true)
+
+token-link : (s : Slot) → isToken s ≡ true → (origin : List ℕ) → s .link ≡ linkTo origin → length origin ≡ handleSize → SoundLink s
+unfolding fitLink every
+token-link s is origin e n =
+    rw (is, e) (simp length-append (omega (arith, n)), ap (every isZero) (drop-at origin (replicate (linkSize - handleSize) 0) handleSize n))
+
 sound-free : (clients : ℕ) → SoundSlot clients freeSlot
 sound-free clients = record { fits = free-fits; fit = fit-free clients }
 
 module _ (clients : ℕ) (s : Slot) (used : isUsed s ≡ true) where
-  sound-used : clients ≤ 64 → s .kind ≤ kindLast → length (s .handle) ≡ handleSize → s .expiry < 256 ^ expirySize
-      → FieldsFit clients (s .client) (s .farm) (s .scope) → length (s .origin) ≡ handleSize → (isToken s || every isZero (s .origin)) ≡ true
-      → SoundSlot clients s
-  sound-used few kind handle expiry f wide origin = record {
+  pub sound-used : clients ≤ 64 → s .kind ≤ kindLast → length (s .handle) ≡ handleSize → s .expiry < 256 ^ expirySize
+      → FieldsFit clients (s .client) (s .farm) (s .scope) → SoundLink s → SoundSlot clients s
+  sound-used few kind handle expiry f link = record {
     fits = record {
       kind = omega arith;
       handle = handle;
@@ -61,12 +70,12 @@ module _ (clients : ℕ) (s : Slot) (used : isUsed s ≡ true) where
       farm = omega (arith, f .wide);
       scope = omega (arith, f .scope .byte);
       expiry = expiry;
-      origin = wide;
+      link = link .0;
     };
-    fit = used-fit clients s used (record { kind = kind; client = f .client; scope = f .scope .some; origin = origin });
+    fit = used-fit clients s used (record { kind = kind; client = f .client; scope = f .scope .some; link = link .1 });
   }
 
-  used-fields : SoundSlot clients s → FieldsFit clients (s .client) (s .farm) (s .scope)
+  pub used-fields : SoundSlot clients s → FieldsFit clients (s .client) (s .farm) (s .scope)
   used-fields w =
       let u = fit-used clients s used (w .fit) in
       record {
@@ -170,7 +179,7 @@ found-sound {clients} p (s ∷ slots) w = by (p s) (found-sound p slots (λ k. w
     by false r = r
 
 module _ {clients : ℕ} (few : clients ≤ 64) {t : ℕ} (early : t ≤ latestTime) (random : List ℕ) (twenties : List (List ℕ)) (p : HandleText)
-    (g : Store) (w : Sound clients g) where
+    (d : DigestText) (g : Store) (w : Sound clients g) where
   abbrev slots : List Slot
   slots = g .slots
 
@@ -181,57 +190,61 @@ module _ {clients : ℕ} (few : clients ≤ 64) {t : ℕ} (early : t ≤ latestT
   shown-fields q live =
       let s = shownSlot q p slots in used-fields clients s (and-left (isUsed s) (ltb t (s .expiry)) live) (shown-sound q)
 
-  -- a code that is found is fit as spent, too: it has no origin
+  -- a code that is found is fit as spent, too: it has no link
   spent-sound : isLive t (shownSlot soughtCode p slots) ≡ true → SoundSlot clients (spentCode (shownSlot soughtCode p slots))
+  unfolding fitLink every
   spent-sound live =
-      let s = shownSlot soughtCode p slots in
       let sound = shown-sound soughtCode in
-      let used = and-left (isUsed s) (ltb t (s .expiry)) live in
-      let none : isToken s ≡ false = code-fails isTokenKind refl refl s (and-left (isSought soughtCode s) (shows p s) (shown-key t slots soughtCode p live)) in
-      let zero : every isZero (s .origin) ≡ true = rw none at (fit-used clients s used (sound .fit) .origin) in
-      sound-used clients (spentCode s) refl few (lit≤ tt) (sound .fits .handle) (sound .fits .expiry) (shown-fields soughtCode live)
-      (sound .fits .origin) zero
+      sound-used clients (spentCode (shownSlot soughtCode p slots)) refl few (lit≤ tt) (sound .fits .handle) (sound .fits .expiry)
+      (shown-fields soughtCode live) (refl, refl)
 
-  code-sound : (r : CodeRequest) → 20 ≤ length random → FieldsFit clients (r .client) (r .farm) (r .scope)
-      → SoundSlot clients (newCode t (firstHandle random) r)
-  unfolding every
-  code-sound r h f = by (r .bound)
+  code-sound : (r : CodeRequest) → 20 ≤ length random → FieldsFit clients (r .client) (r .farm) (r .scope) → FitChallenge d
+      → SoundSlot clients (newCode t (firstHandle random) d r)
+  unfolding fitLink
+  code-sound r h f fit = by (r .bound) (d .valid) (fit .filled)
     where
-      by : (b : Bool)
-          → SoundSlot clients (newCode t (firstHandle random) (record { client = r .client; farm = r .farm; scope = r .scope; bound = b }))
-      by true = sound-used clients _ refl few (lit≤ tt) (length-take-le handleSize random h) (omega arith) f refl refl
-      by false = sound-used clients _ refl few (lit≤ tt) (length-take-le handleSize random h) (omega arith) f refl refl
+      by : (b c : Bool) → (c || every isZero (d .bytes)) ≡ true
+          → SoundSlot clients
+          (newCode t (firstHandle random) (record { valid = c; bytes = d .bytes })
+          (record { client = r .client; farm = r .farm; scope = r .scope; bound = b }))
+      by true true e = sound-used clients _ refl few (lit≤ tt) (length-take-le handleSize random h) (omega arith) f (fit .size, e)
+      by true false e = sound-used clients _ refl few (lit≤ tt) (length-take-le handleSize random h) (omega arith) f (fit .size, e)
+      by false true e = sound-used clients _ refl few (lit≤ tt) (length-take-le handleSize random h) (omega arith) f (fit .size, e)
+      by false false e = sound-used clients _ refl few (lit≤ tt) (length-take-le handleSize random h) (omega arith) f (fit .size, e)
 
   issue-each : (s : Slot) (l : List Slot) → SoundSlot clients s → AllSound clients l → AllSound clients (issue t s l)
   issue-each s l new old = replaceFirst-each (isVacant t) freeSlot (SoundSlot clients) s new l old
 
-  granted-each : (request : Request) → Brings clients random twenties request → Granted t slots random p request
-      → AllSound clients (planFor t slots random p request .granted)
+  granted-each : (request : Request) → Brings clients random twenties d request → Granted t slots random p d request
+      → AllSound clients (planFor t slots random p d request .granted)
   unfolding planFor refusedPlan codePlan exchangePlan refreshPlan credentialsPlan Brings
   granted-each (Refused r) q e = w .slots
-  granted-each (Code r) q e = issue-each _ slots (code-sound r (omega (arith, q .0 .size)) (q .1)) (w .slots)
+  granted-each (Code r) q e = issue-each _ slots (code-sound r (omega (arith, q .0 .size)) (q .1) (q .2)) (w .slots)
   granted-each (Exchange r) q e =
-      let live = exchange-has t slots random p r e .0 in
+      let live = exchange-has t slots random p d r e .0 in
       let f = shown-fields soughtCode live in
       let o = shown-sound soughtCode .fits .handle in
       let a = length-take-le handleSize random (omega (arith, q .size)) in
       let b = length-take-le handleSize (drop handleSize random) (simp length-drop (omega (arith, q .size))) in
-      issue-each _ _ (sound-used clients _ refl few (lit≤ tt) b (omega arith) f o refl)
-      (issue-each _ _ (sound-used clients _ refl few (lit≤ tt) a (omega arith) f o refl)
+      let code = shownSlot soughtCode p slots in
+      let on : ℕ → List ℕ → Slot = λ kind handle. tokenOn code (code .handle) t kind handle (code .scope) in
+      issue-each (on kindRefresh _) _ (sound-used clients _ refl few (lit≤ tt) b (omega arith) f (token-link _ refl (code .handle) refl o))
+      (issue-each (on kindAccess _) _ (sound-used clients _ refl few (lit≤ tt) a (omega arith) f (token-link _ refl (code .handle) refl o))
       (replaceFirst-each (soughtKey soughtCode p) freeSlot (SoundSlot clients) _ (spent-sound live) slots (w .slots)))
   granted-each (Refresh r) q e =
       let s = shownSlot soughtRefresh p slots in
-      let f = shown-fields soughtRefresh (refresh-has t slots random p r e .0) in
+      let f = shown-fields soughtRefresh (refresh-has t slots random p d r e .0) in
       let a = length-take-le handleSize random (omega (arith, q .0 .size)) in
+      let o = length-take-le handleSize (s .link) (omega (arith, shown-sound soughtRefresh .fits .link)) in
       issue-each _ slots
       (sound-used clients _ refl few (lit≤ tt) a (omega arith)
-      (record { client = f .client; wide = f .wide; scope = scope-given (r .scope) (s .scope) (q .1) (f .scope) }) (shown-sound soughtRefresh .fits .origin) refl)
+      (record { client = f .client; wide = f .wide; scope = scope-given (r .scope) (s .scope) (q .1) (f .scope) }) (token-link _ refl (originOf s) refl o))
       (w .slots)
   granted-each (Credentials r) q e =
       let a = length-take-le handleSize random (omega (arith, q .0 .size)) in
-      issue-each _ slots (sound-used clients _ refl few (lit≤ tt) a (omega arith) (q .1) a refl) (w .slots)
+      issue-each _ slots (sound-used clients _ refl few (lit≤ tt) a (omega arith) (q .1) (token-link _ refl (firstHandle random) refl a)) (w .slots)
 
-  granted-size : (request : Request) → length (planFor t slots random p request .granted) ≡ length slots
+  granted-size : (request : Request) → length (planFor t slots random p d request .granted) ≡ length slots
   unfolding planFor refusedPlan codePlan exchangePlan refreshPlan credentialsPlan
   granted-size (Refused r) = refl
   granted-size (Code r) = simp length-replaceFirst
@@ -240,7 +253,7 @@ module _ {clients : ℕ} (few : clients ≤ 64) {t : ℕ} (early : t ≤ latestT
   granted-size (Credentials r) = simp length-replaceFirst
 
   -- a refusal frees slots at the most
-  denied-each : (request : Request) → AllSound clients (planFor t slots random p request .denied)
+  denied-each : (request : Request) → AllSound clients (planFor t slots random p d request .denied)
   unfolding planFor refusedPlan codePlan exchangePlan refreshPlan credentialsPlan
   denied-each (Refused r) = w .slots
   denied-each (Code r) = w .slots
@@ -252,7 +265,7 @@ module _ {clients : ℕ} (few : clients ≤ 64) {t : ℕ} (early : t ≤ latestT
   denied-each (Refresh r) = w .slots
   denied-each (Credentials r) = w .slots
 
-  denied-size : (request : Request) → length (planFor t slots random p request .denied) ≡ length slots
+  denied-size : (request : Request) → length (planFor t slots random p d request .denied) ≡ length slots
   unfolding planFor refusedPlan codePlan exchangePlan refreshPlan credentialsPlan
   denied-size (Refused r) = refl
   denied-size (Code r) = refl
@@ -265,14 +278,14 @@ module _ {clients : ℕ} (few : clients ≤ 64) {t : ℕ} (early : t ≤ latestT
   denied-size (Credentials r) = refl
 
   -- a request leaves a sound store
-  pub sound-after : (request : Request) → Brings clients random twenties request
-      → Sound clients (record { time = t; slots = slotsAfter (planFor t slots random p request) })
+  pub sound-after : (request : Request) → Brings clients random twenties d request
+      → Sound clients (record { time = t; slots = slotsAfter (planFor t slots random p d request) })
   unfolding slotsBy isGrant
   sound-after request q = by (decisionOn plan) (granted-each request q)
     where
       plan : Plan
-      plan = planFor t slots random p request
+      plan = planFor t slots random p d request
 
-      by : (d : Decision) → (isGrant d ≡ true → AllSound clients (plan .granted)) → Sound clients (record { time = t; slots = slotsBy d plan })
+      by : (made : Decision) → (isGrant made ≡ true → AllSound clients (plan .granted)) → Sound clients (record { time = t; slots = slotsBy made plan })
       by Grant f = record { size = granted-size request ∙ w .size; early = early; slots = f refl }
       by (Refuse r) f = record { size = denied-size request ∙ w .size; early = early; slots = denied-each request }

@@ -18,12 +18,13 @@ use Rattle.octets.specs.Lists.{Bytes, part, every, same}
 use Rattle.octets.specs.Search.{count, any}
 use Rattle.octets.proofs.Counting.{count-map, any-map, member-map}
 use Rattle.encoding.specs.Hex.{readHandle}
+use Rattle.encoding.specs.declared.DigestText.{DigestText}
 use Rattle.form.specs.Content.{Value, missing, formValue, onlyValue}
 use Rattle.client_registry.proofs.Clients.{redirect-most}
 use Rattle.client_registry.specs.Registry.{Client, clientsOf}
 use Rattle.client_registry.specs.Lookup.{numberOf, clientAt}
 use Rattle.token_store.specs.Layout.{slotStart, slotSize}
-use Rattle.token_store.specs.Store.{Store, SlotsFit, isToken, isLive, freeSlot, encode, decode, decodeSlot, comesFrom, withoutTokens}
+use Rattle.token_store.specs.Store.{Store, SlotsFit, isToken, originOf as originIn, isLive, freeSlot, encode, decode, decodeSlot, comesFrom, withoutTokens}
 use Rattle.token_store.specs.declared.Slot.{Slot}
 use Rattle.protocol.specs.declared.Decision.{Decision}
 use Rattle.protocol.specs.declared.Decision.the-variants.{Grant}
@@ -31,10 +32,10 @@ use Rattle.protocol.specs.declared.Reading.{Reading}
 use Rattle.protocol.specs.Limits.{tokenRandom}
 use Rattle.protocol.specs.Answers.{isGrant}
 use Rattle.protocol.specs.Refusals.{firstOf}
-use Rattle.protocol.specs.Requests.{fits, scopeAsked, noHandle, unlessRefused}
+use Rattle.protocol.specs.Requests.{fits, scopeAsked, noHandle, noChallenge, unlessRefused}
 use Rattle.protocol.specs.Authorization.{queryClient, isInvalidScope, location, codeParameter, locationText}
 use Rattle.protocol.specs.ClientForms.{callClient}
-use Rattle.protocol.specs.Token.{credentialsReasons, readCredentials, readToken, tokenReply, refreshMember}
+use Rattle.protocol.specs.Token.{challengeAnswered, credentialsReasons, readCredentials, readToken, tokenReply, refreshMember}
 use Rattle.protocol.specs.Granting.{Plan, shownSlot, firstHandle, secondHandle, exchangePlan, refreshPlan, credentialsPlan, planFor, planOf, decisionOn}
 use Rattle.protocol.specs.Outcomes.{Handed, replyText, serveCheck}
 use Rattle.history.specs.Calls.{Call, authorization, token, check, handedTo, AllWellTyped, Result}
@@ -43,7 +44,7 @@ use Rattle.history.specs.Contents.{Sort, noIssue, code, access, refresh,
 use Rattle.history.specs.Slots.{holdsTokenFrom}
 use Rattle.history.specs.Claim.{isExchangeable, mayExchange, isRefreshable, mayRefresh, mayHaveOwn, mayPass, Answers, store, contained, standing, timeAt, next, Judged, Asks, Demand3, CredentialsYield}
 use Rattle.protocol.proofs.Reasons.{grant-every}
-use Rattle.history.proofs.HeldIssues.{Held, noneHeld, sought, asSlot, asIssue, issue-live, issue-key, issue-repeated}
+use Rattle.history.proofs.HeldIssues.{Held, noneHeld, sought, asSlot, asIssue, issue-live, issue-key, issue-exchanged}
 use Rattle.history.proofs.Invariant.{Invariant, invariant-later, origin}
 use Rattle.history.proofs.Readings.{second-last, within-granted, given-asked}
 use Rattle.history.proofs.OneRequest.{exchange-has, refresh-has, exchange-none, refresh-none, isExchangeableHeld, isRefreshableHeld, exchange-answer, refresh-answer, credentials-answer, check-passes, check-names}
@@ -186,6 +187,9 @@ module _ (registry : List ℕ) (small : Bytes registry) (cs : List Call) (typed 
       abbrev presentedCode : List ℕ
       presentedCode = valueOf body (bytes "code")
 
+      abbrev answered : DigestText
+      answered = challengeAnswered (formValue body (bytes "code_verifier"))
+
       read-exchange : readToken clients header body ≡ unlessMissing (formValue body (bytes "code")) (exchangeReading clients header body)
       read-exchange = exchange-read clients header body (a .admitted) is
 
@@ -193,20 +197,21 @@ module _ (registry : List ℕ) (small : Bytes registry) (cs : List Call) (typed 
       unfolding onlyValue
       exchange-granted =
           presented-granted (formValue body (bytes "code")) _ read-exchange
-          (λ e. rw e (exchange-none t slots random (exchangeAsked clients header body)))
+          (λ e. rw e (exchange-none t slots random answered (exchangeAsked clients header body)))
 
       exchangeable : (e : Held) → isExchangeable clients t (standing ours registry cs) header body (asIssue clients e)
-          ≡ isExchangeableHeld t (readHandle presentedCode) (exchangeAsked clients header body) e
+          ≡ isExchangeableHeld t (readHandle presentedCode) answered (exchangeAsked clients header body) e
       exchangeable e =
           rw (caller-is clients header body)
           (ap₂ _&&_ (issue-live clients t e)
-          (issue-repeated clients presentedCode (callClient clients header body) (formValue body (bytes "redirect_uri")) e))
+          (issue-exchanged clients presentedCode (callClient clients header body) (formValue body (bytes "redirect_uri"))
+          (formValue body (bytes "code_verifier")) e))
 
       exchange-claim : next ours registry cs asks .granted ≡ mayExchange clients t (standing ours registry cs) header body
       unfolding mayExchange
       exchange-claim =
           exchange-granted
-          ∙ exchange-answer invariant once (readHandle presentedCode) random new (exchangeAsked clients header body)
+          ∙ exchange-answer invariant once (readHandle presentedCode) random new answered (exchangeAsked clients header body)
           ∙ ap₂ _&&_ (sym (any-held _ _ exchangeable)) (ap (λ (n : ℕ). leb (n + 2) 512) (sym (count-held _ _ (issue-live clients t))))
 
       exchange-reply : next ours registry cs asks .granted ≡ true
@@ -215,7 +220,7 @@ module _ (registry : List ℕ) (small : Bytes registry) (cs : List Call) (typed 
       unfolding replyText planFor exchangePlan
       exchange-reply e =
           let granted = sym exchange-granted ∙ e in
-          let live = exchange-has t slots random (readHandle presentedCode) (exchangeAsked clients header body) granted .0 in
+          let live = exchange-has t slots random (readHandle presentedCode) answered (exchangeAsked clients header body) granted .0 in
           rw (← (second-last random size), ← (scope-held code presentedCode live)) (reply-as (read-granted _ _ read-exchange e) granted)
 
     -- ---- a refresh
@@ -234,7 +239,7 @@ module _ (registry : List ℕ) (small : Bytes registry) (cs : List Call) (typed 
       unfolding onlyValue
       refresh-granted =
           presented-granted (formValue body (bytes "refresh_token")) _ read-refresh
-          (λ e. rw e (refresh-none t slots random (refreshAsked clients header body)))
+          (λ e. rw e (refresh-none t slots random noChallenge (refreshAsked clients header body)))
 
       refreshable : (e : Held) → isRefreshable clients t (standing ours registry cs) header body (asIssue clients e)
           ≡ isRefreshableHeld t (readHandle tokenShown) (refreshAsked clients header body) e
@@ -247,7 +252,7 @@ module _ (registry : List ℕ) (small : Bytes registry) (cs : List Call) (typed 
       unfolding mayRefresh
       refresh-claim =
           refresh-granted
-          ∙ refresh-answer invariant once (readHandle tokenShown) random new (refreshAsked clients header body)
+          ∙ refresh-answer invariant once (readHandle tokenShown) random new noChallenge (refreshAsked clients header body)
           ∙ ap₂ _&&_ (sym (any-held _ _ refreshable)) (ap (λ (n : ℕ). leb (n + 1) 512) (sym (count-held _ _ (issue-live clients t))))
 
       refresh-reply : next ours registry cs asks .granted ≡ true
@@ -256,7 +261,7 @@ module _ (registry : List ℕ) (small : Bytes registry) (cs : List Call) (typed 
       unfolding replyText planFor refreshPlan
       refresh-reply e =
           let granted = sym refresh-granted ∙ e in
-          let live = refresh-has t slots random (readHandle tokenShown) (refreshAsked clients header body) granted .0 in
+          let live = refresh-has t slots random (readHandle tokenShown) noChallenge (refreshAsked clients header body) granted .0 in
           rw (← (given-asked scope (originOf refresh tokenShown (standing ours registry cs) .scope)), ← (scope-held refresh tokenShown live))
           (reply-as (read-granted _ _ read-refresh e) granted)
 
@@ -280,7 +285,7 @@ module _ (registry : List ℕ) (small : Bytes registry) (cs : List Call) (typed 
           ≡ (client .confidential && isWithinGranted (formValue body (bytes "scope")) (client .scope) && leb (count (λ e. isLive t (asSlot e)) held + 1) 512)
       credentials-granted =
           granted-as read-credentials ∙ unless-grants t slots random _ (credentialsReading clients header body)
-          ∙ ap₂ _&&_ unrefused-is (credentials-answer invariant once noHandle random new (credentialsAsked clients header body))
+          ∙ ap₂ _&&_ unrefused-is (credentials-answer invariant once noHandle random new noChallenge (credentialsAsked clients header body))
 
       credentials-claim : next ours registry cs asks .granted ≡ mayHaveOwn clients t (standing ours registry cs) header body
       unfolding mayHaveOwn
@@ -366,7 +371,7 @@ module _ (registry : List ℕ) (small : Bytes registry) (cs : List Call) (typed 
       abbrev Left : Bool → Type 0
       Left b =
           part (encode (record { time = at; slots = cond b (withoutTokens (readHandle (codeShown c) .bytes) slots) slots })) (slotStart i) slotSize
-          ≡ cond (b && holdsTokenFrom (codeShown c) slot) (replicate 55 0) slot
+          ≡ cond (b && holdsTokenFrom (codeShown c) slot) (replicate 67 0) slot
 
       -- a second showing frees the tokens that came from the code, and nothing else
       left-by : (b : Bool) → again ≡ b → Left b
@@ -377,7 +382,7 @@ module _ (registry : List ℕ) (small : Bytes registry) (cs : List Call) (typed 
           let read : decodeSlot slot ≡ getD slots i freeSlot = ap decodeSlot bytes-are ∙ slot-read-back left (kept .sound .size) fits i below in
           let holds : comesFrom handle (getD slots i freeSlot) ≡ holdsTokenFrom (codeShown c) slot =
           ap (comesFrom handle) (sym read)
-          ∙ ap (λ (v : Bool). isToken (decodeSlot slot) && (v && same handle (decodeSlot slot .origin))) (sym (again-valid clients at slots c e))
+          ∙ ap (λ (v : Bool). isToken (decodeSlot slot) && (v && same handle (originIn (decodeSlot slot)))) (sym (again-valid clients at slots c e))
           in
           slots-freed left (kept .sound .size) fits (comesFrom handle) at i below
           ∙ ap₂ (λ (b : Bool) (l : List ℕ). cond b (replicate slotSize 0) l) holds (sym bytes-are)
@@ -386,14 +391,14 @@ module _ (registry : List ℕ) (small : Bytes registry) (cs : List Call) (typed 
 
       refused-slot : next ours registry cs c .granted ≡ false
           → part (next ours registry cs c .store) (slotStart i) slotSize
-          ≡ cond (isSecondShowing clients at (standing ours registry cs) c && holdsTokenFrom (codeShown c) slot) (replicate 55 0) slot
+          ≡ cond (isSecondShowing clients at (standing ours registry cs) c && holdsTokenFrom (codeShown c) slot) (replicate 67 0) slot
       refused-slot none =
           ap (λ (r : Result). part (r .store) (slotStart i) slotSize) (result-is c judged)
           ∙ ap (λ (b : List ℕ). part b (slotStart i) slotSize) (store-on clients left c)
           ∙ ap (λ (l : List Slot). part (encode (record { time = at; slots = l })) (slotStart i) slotSize)
           (refused-left clients left c (sym (ap (λ (r : Result). r .granted) (result-is c judged)) ∙ none) ∙ denied-is clients at slots (handedTo c .random) c)
           ∙ left-by again refl
-          ∙ ap (λ (b : Bool). cond (b && holdsTokenFrom (codeShown c) slot) (replicate 55 0) slot) (sym second-is)
+          ∙ ap (λ (b : Bool). cond (b && holdsTokenFrom (codeShown c) slot) (replicate 67 0) slot) (sym second-is)
 
 -- For every registry of bytes, fit or not, and every list of calls whose random bytes are bytes and whose farm numbers have 32 bits. That
 -- no twenty random bytes come twice is asked where a call is judged (`Judged`).

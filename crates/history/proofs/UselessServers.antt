@@ -5,57 +5,61 @@
 -- them, by computation; that none of the servers meets the claim (`useless`, `unmet`). At the end a server that the claim does not
 -- shut out: "demand 3 alone holds of a desk that issues nothing".
 -- Assumes nothing.
-use mathlib.Core.Path.{_≡_, refl, sym, ap, ap₂, _∙_}
-use mathlib.Core.Bool.{not, Bool, true, false, cond, _&&_, false≢true, and-false}
+use mathlib.Core.Path.{_≡_, refl, sym, ap, ap₂, _∙_, subst}
+use mathlib.Core.Bool.{not, Bool, true, false, cond, _&&_, _||_, false≢true, and-false, or-true}
 use mathlib.Core.List.{List, [], _∷_, _++_, map, List·Memᴰ·not-nil}
-use Prim.Native.Nat.{ℕ, _+_, max}
+use Prim.Native.Nat.{ℕ, _+_, _≤_, max}
 use native.Mathlib.Omega.{arith}
-use borrow.Author.Tests.{eqb-true}
-use lib.Dec.{ltb, eqb, lit<}
-use lib.ListN.{length, drop, length-map, List·getD-map}
+use lib.Dec.{ltb, eqb, lit≤, lit<}
+use lib.ListN.{length, drop, getD, length-map, List·getD-map}
 use lib.Seq.{drop-at}
 use Rattle.octets.specs.Lists.{indexOf, splitOn, grow, every, same}
 use Rattle.octets.specs.Search.{count, firstOr, replaceFirst, replaceAll, keep, indexWhere, any}
 use Rattle.octets.specs.Text.{bytes}
-use Rattle.octets.specs.BigEndian.{bigEndianBytes}
+use Rattle.octets.specs.BigEndian.{bigEndianBytes, bigEndianFrom}
 use Rattle.octets.proofs.BigEndian.{length-be-bytes}
 use Rattle.octets.proofs.Booleans.{and-left, cond-of}
 use Rattle.octets.proofs.Counting.{length-replaceFirst, length-replaceAll}
 use Rattle.octets.proofs.Searches.{replaceFirst-each, replaceAll-each}
 use Rattle.octets.proofs.Lists.{same-refl, same-eq}
 use Rattle.encoding.specs.Hex.{hexText, hexDigit, hexValue, isHandleText, unhex, readHandle}
-use Rattle.encoding.specs.Base64.{isBase64, base64Bytes, groupBytes, soundGroup, sextet, none}
+use Rattle.encoding.specs.Base64.{readDigest, isDigestText, base64Text, digit64, isBase64, base64Bytes, groupBytes, soundGroup, sextet, none}
+use Rattle.sha256.specs.Functions.{rotr, ch, maj, bigSigma, smallSigma}
+use Rattle.sha256.specs.Constants.{roundConstants, initialHash}
+use Rattle.sha256.specs.Digest.{padding, paddedMessage, blockWords, scheduleWord, nextWord, extended, schedule, firstSum, secondSum, round, rounds, added, compressed, hashed, wordsBytes, stateBytes, digest}
 use Rattle.form_coding.specs.Coding.{decodeAfter, firstByte, extra, isEscape, plain, wellFormed, sound, encode as encodeForm, encodeByte}
 use Rattle.form.specs.Content.{isWellFormedForm, pieceName, pieceValue, gives, add, valueIn, formValue, isMissing, isRepeated, onlyValue, isOnce}
 use Rattle.scope.specs.Set.{names}
 use Rattle.scope.specs.Value.{bitFrom, bitOf, union, readScope, chosen, spaced, scopeText}
 use Rattle.client_registry.specs.Sample.{sampleConfidential, samplePublic, sampleClients, sampleRegistry}
 use Rattle.client_registry.specs.Registry.{clientsOf, distinct}
-use Rattle.token_store.specs.Store.{freeSlot, Store, encode, decode, fresh, soughtKey, slotOf, isVacant, concat, encodeSlot, issue, withSlots, withTime, kindRefresh, isUsed, isSought, comesFrom, withoutTokens}
+use Rattle.token_store.specs.Store.{kindCode, kindBoundCode, codeKind, noLink, isBoundCode, isChallenged, freeSlot, Store, encode, decode, fresh, soughtKey, slotOf, isVacant, concat, encodeSlot, issue, withSlots, withTime, isSought, comesFrom, withoutTokens}
+use Rattle.token_store.specs.Fit.{fitLink}
 use Rattle.token_store.specs.Layout.{timeSize}
 use Rattle.token_store.specs.declared.Slot.{Slot}
 use Rattle.token_store.specs.declared.Sought.the-variants.{Code as soughtCode, Refresh as soughtRefresh}
-use Rattle.token_store.proofs.Slots.{free-fits}
-use Rattle.token_store.proofs.Fits.{fit-free, fit-used, used-fit}
+use Rattle.token_store.proofs.Slots.{free-fits, sought-used}
+use Rattle.token_store.proofs.Fits.{fit-free, fit-used}
 use Rattle.protocol.specs.Answers.{wordText, isGrant}
 use Rattle.protocol.specs.Refusals.{firstOf}
 use Rattle.protocol.specs.Requests.{askedBy, scopeAsked, fits, scopeGiven, unlessRefused}
-use Rattle.protocol.specs.Authorization.{isBadQuery, queryClient, isBadClient, isBadRedirect, isSoundState, isBadState, isInvalidRequest, isOtherType, isInvalidScope, codeAsked, pageReasons, redirectReasons, readAuthorization, separator, stateText, location, codeParameter, errorParameter, locationText}
+use Rattle.protocol.specs.Authorization.{challengeGiven, isBadChallenge, isBadQuery, queryClient, isBadClient, isBadRedirect, isSoundState, isBadState, isInvalidRequest, isOtherType, isInvalidScope, codeAsked, pageReasons, redirectReasons, readAuthorization, separator, stateText, location, codeParameter, errorParameter, locationText}
 use Rattle.protocol.specs.ClientForms.{isInvalidForm, lowerCase, sameAnyCase, credentials, isBadHeader, headerId, headerSecret, presentedId, presentedSecret, isUnclearId, isImpostor, callClient, isInvalidClient, formReasons}
-use Rattle.protocol.specs.Token.{readExchange, readRefresh, readCredentials, readGrant, errorReply, refusalReply, tokenReply, refreshMember, challenges, readToken}
+use Rattle.protocol.specs.Token.{isSoundVerifier, challengeAnswered, readExchange, readRefresh, readCredentials, readGrant, errorReply, refusalReply, tokenReply, refreshMember, challenges, readToken}
 use Rattle.protocol.specs.Granting.{refusedPlan, codePlan, exchangePlan, refreshPlan, credentialsPlan, planFor, slotsBy, checkSlots}
 use Rattle.protocol.specs.Outcomes.{Handed, replyText, serveAuthorization, serveToken, serveCheck}
 use Rattle.protocol.proofs.Starred.{countUp, rfcQuery}
 use Rattle.history.specs.Contents.{standingAfter, withEvent, codeIssue, exchangeIssues, refreshIssues, ownIssue, issuedBy, isSpentBy, isSecondShowing, codeShown, isWithdrawnBy, noIssue, isWithinGranted, noneBeyond, askedOr, namesOr, valueOf, Issue, Contents, nothingYet, withEvents, twenties, isExchange, isRefresh, isCredentials, idIn, isAdmitted}
-use Rattle.history.specs.Claim.{isRepeatedBy, mayRefresh, mayPass, mayExchange, mayHaveOwn, Demand3, CredentialsYield}
+use Rattle.history.specs.Claim.{isRepeatedBy, isAnsweredBy, verifies, isVerifierFor, mayRefresh, mayPass, mayExchange, mayHaveOwn, Demand3, CredentialsYield}
 use Rattle.history.specs.Server.{isUnfit, isUnfitDecision, isUnfitRefusal, isUnfitCheck, isGranted, lengthOf, isPassed, namedIn, isLiveCheck, namedBy, nothingNamed, ours}
 use Rattle.history.specs.Calls.{Call, authorization, token, check, handedTo, WellTyped, AllWellTyped, Result, Server, events, freshStore}
 use Rattle.history.proofs.AnyCall.{outcomeOn, asked, unfitTo, leftBy, store-on}
-use Rattle.history.proofs.SoundStores.{SoundSlot, sound-back, sound-fresh}
+use Rattle.history.proofs.SoundStores.{SoundSlot, sound-used, used-fields, sound-back, sound-fresh}
+use Rattle.history.proofs.Readings.{FieldsFit}
 use Rattle.history.proofs.AllCalls.{fresh-bytes}
 use Rattle.history.proofs.CallsOnRecords.{resultOn, isFitting}
 use Rattle.history.proofs.Sample.{tested-bytes, SoundSample, sample-served, sample-left}
-use Rattle.history.proofs.Examples.{handedAt, authorizeAt, header, exchangeOf, repeating, byBarnapp, tokenAt, codeText, accessText, refreshText, exchangeAt, refreshFor, visit, night, isTyped, ownFor, ownText}
+use Rattle.history.proofs.Examples.{handedAt, authorizeAt, header, exchangeOf, repeating, byBarnapp, tokenAt, codeText, accessText, refreshText, exchangeAt, refreshFor, challengeText, verifying, challengedVisit, visit, night, isTyped, ownFor, ownText}
 use Rattle.history.proofs.Visit.{tested-calls}
 use Rattle.history.proofs.ServersOnRecords.{Model, Follows, leftAfter, eventsAfter, containedAfter, all, isNamedWrongly, exchangesWrongly, refreshesWrongly, exchangeRepliesWrongly, refreshRepliesWrongly, credentialsWrongly, credentialsRepliesWrongly, passesWrongly, namesWrongly, locatesWrongly, measuresWrongly, spendsSlot, unequal, exchange-fails, refresh-fails, exchange-reply-fails, refresh-reply-fails, credentials-fails, credentials-reply-fails, pass-fails, name-fails, locate-fails, measure-fails, spend-fails}
 
@@ -161,6 +165,16 @@ spent (check presented clock) granted before after = after
 pub spendsOnRefusal : Server
 spendsOnRefusal = leavingFrom spent
 
+-- a code is spent when it is tried without a verifier
+unfoldable pub spentUnanswered : Call → Bool → Store → Store → Store
+spentUnanswered (authorization query decision farm handed) granted before after = after
+spentUnanswered (token header body handed) granted before after =
+    spent (token header body handed) (granted || not (isMissing (formValue body (bytes "code_verifier")))) before after
+spentUnanswered (check presented clock) granted before after = after
+
+pub spendsUnanswered : Server
+spendsUnanswered = leavingFrom spentUnanswered
+
 -- an exchange, after which its code is found again
 unfoldable pub putBack : Call → Bool → Store → Store → Store
 putBack (authorization query decision farm handed) granted before after = after
@@ -203,20 +217,50 @@ withdrawsForAnyone = leavingFrom withdrawn
 pub handedClock : Server
 handedClock registry store c = ours registry (bigEndianBytes timeSize 0 ++ drop timeSize store) c
 
+-- by an exchange or a refresh, each slot is read as another
+unfoldable pub seenAs : (List ℕ → Bool) → (List ℕ → Slot → Slot) → Call → Store → Store
+seenAs isGrantType f (authorization query decision farm handed) g = g
+seenAs isGrantType f (token header body handed) g = cond (isGrantType body) (withSlots g (map (f body) (g .slots))) g
+seenAs isGrantType f (check presented clock) g = g
+
+abbrev seeing : (List ℕ → Bool) → (List ℕ → Slot → Slot) → Server
+seeing isGrantType f registry store c = ours registry (encode (seenAs isGrantType f c (decode store))) c
+
 -- "A refresh that widens scope": a refresh token counts as granted for every name
-abbrev wide : Slot → Slot
-wide s =
+abbrev wide : List ℕ → Slot → Slot
+wide body s =
     cond (isSought soughtRefresh s)
-    (record { kind = s .kind; handle = s .handle; client = s .client; farm = s .farm; scope = 255; expiry = s .expiry; origin = s .origin })
+    (record { kind = s .kind; handle = s .handle; client = s .client; farm = s .farm; scope = 255; expiry = s .expiry; link = s .link })
     s
 
-unfoldable pub widened : Call → Store → Store
-widened (authorization query decision farm handed) g = g
-widened (token header body handed) g = cond (isRefresh body) (withSlots g (map wide (g .slots))) g
-widened (check presented clock) g = g
-
 pub widensScope : Server
-widensScope registry store c = ours registry (encode (widened c (decode store))) c
+widensScope = seeing isRefresh wide
+
+-- a code with a challenge, as one without
+abbrev bare : Slot → Slot
+bare s = record {
+  kind = codeKind (isBoundCode s) false;
+  handle = s .handle;
+  client = s .client;
+  farm = s .farm;
+  scope = s .scope;
+  expiry = s .expiry;
+  link = noLink;
+}
+
+-- no verifier is asked
+abbrev unasked : List ℕ → Slot → Slot
+unasked body s = cond (isChallenged s) (bare s) s
+
+pub ignoresVerifier : Server
+ignoresVerifier = seeing isExchange unasked
+
+-- the challenge itself is taken for a verifier, as by the method `plain`
+abbrev plainly : List ℕ → Slot → Slot
+plainly body s = cond (isChallenged s && same (readDigest (valueOf body (bytes "code_verifier")) .bytes) (s .link)) (bare s) s
+
+pub takesChallenge : Server
+takesChallenge = seeing isExchange plainly
 
 -- ---- servers with a stock reply
 
@@ -322,6 +366,13 @@ sound-spent (token header body handed) false before after b a =
     sound-replaced (codeIn body) freeSlot free-slot after a
 sound-spent (check presented clock) granted before after b a = a
 
+sound-unanswered : (c : Call) (granted : Bool) (before after : Store) → SoundSample before → SoundSample after
+    → SoundSample (spentUnanswered c granted before after)
+unfolding spentUnanswered
+sound-unanswered (authorization query decision farm handed) granted before after b a = a
+sound-unanswered (token header body handed) granted before after b a = sound-spent (token header body handed) _ before after b a
+sound-unanswered (check presented clock) granted before after b a = a
+
 sound-put : (c : Call) (granted : Bool) (before after : Store) → SoundSample before → SoundSample after
     → SoundSample (putBack c granted before after)
 unfolding putBack
@@ -387,47 +438,72 @@ handed-follows =
     ap (λ (l : List ℕ). ours sampleRegistry (bigEndianBytes timeSize 0 ++ l) c)
     (drop-at (bigEndianBytes timeSize (g .time)) (concat (map encodeSlot (g .slots))) timeSize (length-be-bytes timeSize (g .time))))
 
-sound-wide : (s : Slot) → SoundSlot (length sampleClients) s → SoundSlot (length sampleClients) (wide s)
-sound-wide s w = cond-of (SoundSlot (length sampleClients)) (isSought soughtRefresh s) _ s by (λ _. w)
+-- a slot that is read as another
+abbrev KeepsSound : (Slot → Slot) → Type 0
+KeepsSound f = (s : Slot) → SoundSlot (length sampleClients) s → SoundSlot (length sampleClients) (f s)
+
+few : length sampleClients ≤ 64
+unfolding sampleClients
+few = lit≤ tt
+
+sound-wide : (body : List ℕ) → KeepsSound (wide body)
+unfolding fitLink
+sound-wide body s w = cond-of (SoundSlot (length sampleClients)) (isSought soughtRefresh s) _ s by (λ _. w)
   where
     by : isSought soughtRefresh s ≡ true
         → SoundSlot (length sampleClients)
-        (record { kind = s .kind; handle = s .handle; client = s .client; farm = s .farm; scope = 255; expiry = s .expiry; origin = s .origin })
+        (record { kind = s .kind; handle = s .handle; client = s .client; farm = s .farm; scope = 255; expiry = s .expiry; link = s .link })
     by e =
-        let used : isUsed s ≡ true = rw (eqb-true (s .kind) kindRefresh e) in
+        let used = sought-used soughtRefresh s e in
         let u = fit-used (length sampleClients) s used (w .fit) in
-        let f = w .fits in
-        record {
-          fits = record {
-            kind = f .kind;
-            handle = f .handle;
-            client = f .client;
-            farm = f .farm;
-            scope = lit< tt;
-            expiry = f .expiry;
-            origin = f .origin;
-          };
-          fit = used-fit (length sampleClients) _ used (record { kind = u .kind; client = u .client; scope = lit< tt; origin = u .origin });
-        }
+        let f = used-fields (length sampleClients) s used w in
+        sound-used (length sampleClients) _ used few (u .kind) (w .fits .handle) (w .fits .expiry)
+        (record { client = f .client; wide = f .wide; scope = record { some = lit< tt; byte = lit< tt } }) (w .fits .link, u .link)
 
-sound-widened : (c : Call) (g : Store) → SoundSample g → SoundSample (widened c g)
-unfolding widened freeSlot
-sound-widened (authorization query decision farm handed) g w = w
-sound-widened (token header body handed) g w =
-    cond-of SoundSample (isRefresh body) (withSlots g (map wide (g .slots))) g
-    (λ _. record {
-      size = length-map (g .slots) wide ∙ w .size;
-      early = w .early;
-      slots = λ k. rw (List·getD-map wide (g .slots) k freeSlot) (sound-wide (slotOf g k) (w .slots k));
-    })
-    (λ _. w)
-sound-widened (check presented clock) g w = w
+sound-bare : (s : Slot) → isChallenged s ≡ true → SoundSlot (length sampleClients) s → SoundSlot (length sampleClients) (bare s)
+unfolding fitLink every
+sound-bare s e w = by (isBoundCode s)
+  where
+    fields : FieldsFit (length sampleClients) (s .client) (s .farm) (s .scope)
+    fields =
+        used-fields (length sampleClients) s
+        (sought-used soughtCode s (rw e (or-true (eqb (s .kind) kindCode || eqb (s .kind) kindBoundCode)))) w
 
-widens-follows : Follows widensScope (readingModel widened)
-unfolding widensScope
-widens-follows =
-    reading-follows widensScope widened sound-widened
-    (λ c g w. ap (λ (s : Store). ours sampleRegistry (encode (widened c s)) c) (sound-back g w))
+    by : (b : Bool) → SoundSlot (length sampleClients)
+        (record { kind = codeKind b false; handle = s .handle; client = s .client; farm = s .farm; scope = s .scope; expiry = s .expiry; link = noLink })
+    by true = sound-used _ _ refl few (lit≤ tt) (w .fits .handle) (w .fits .expiry) fields (refl, refl)
+    by false = sound-used _ _ refl few (lit≤ tt) (w .fits .handle) (w .fits .expiry) fields (refl, refl)
+
+sound-unasked : (body : List ℕ) → KeepsSound (unasked body)
+sound-unasked body s w = cond-of (SoundSlot (length sampleClients)) (isChallenged s) (bare s) s (λ e. sound-bare s e w) (λ _. w)
+
+sound-plainly : (body : List ℕ) → KeepsSound (plainly body)
+sound-plainly body s w =
+    let is = same (readDigest (valueOf body (bytes "code_verifier")) .bytes) (s .link) in
+    cond-of (SoundSlot (length sampleClients)) (isChallenged s && is) (bare s) s (λ e. sound-bare s (and-left (isChallenged s) is e) w) (λ _. w)
+
+module _ (isGrantType : List ℕ → Bool) (f : List ℕ → Slot → Slot) (keeps : (body : List ℕ) → KeepsSound (f body))
+    (free : (body : List ℕ) → f body freeSlot ≡ freeSlot) where
+  sound-seen : (c : Call) (g : Store) → SoundSample g → SoundSample (seenAs isGrantType f c g)
+  unfolding seenAs
+  sound-seen (authorization query decision farm handed) g w = w
+  sound-seen (token header body handed) g w =
+      cond-of SoundSample (isGrantType body) (withSlots g (map (f body) (g .slots))) g
+      (λ _. record {
+        size = length-map (g .slots) (f body) ∙ w .size;
+        early = w .early;
+        slots = λ k.
+            subst (SoundSlot (length sampleClients))
+            (sym (List·getD-map (f body) (g .slots) k freeSlot) ∙ ap (λ (d : Slot). getD (map (f body) (g .slots)) k d) (free body))
+            (keeps body (slotOf g k) (w .slots k));
+      })
+      (λ _. w)
+  sound-seen (check presented clock) g w = w
+
+  seeing-follows : Follows (seeing isGrantType f) (readingModel (seenAs isGrantType f))
+  seeing-follows =
+      reading-follows (seeing isGrantType f) (seenAs isGrantType f) sound-seen
+      (λ c g w. ap (λ (s : Store). ours sampleRegistry (encode (seenAs isGrantType f c s)) c) (sound-back g w))
 
 -- by any test for the fresh store
 abbrev firstModel : (Store → Bool) → Model
@@ -489,6 +565,13 @@ again = refreshFor refreshText []
 unfoldable pub itself : List Call
 itself = tokenAt header (ownFor []) 1000 0xA0 ∷ []
 
+-- the visit's code, which has a challenge, is tried without a verifier; and with the challenge as verifier
+unfoldable pub unanswered : Call
+unanswered = tokenAt header (repeating codeText) 1100 0x20
+
+unfoldable challengeShown : List ℕ
+challengeShown = repeating codeText ++ verifying challengeText
+
 -- tests of a call that is judged after some
 module _ (m : Model) (cs : List Call) where
   abbrev comesTo : Call → Result
@@ -508,6 +591,13 @@ module _ (m : Model) (cs : List Call) where
 
   abbrev exchangeTests : ℕ → ℕ → Bool
   exchangeTests clock first = tokenTests exchangesWrongly (repeating codeText) clock first
+
+-- a refused call clears the first slot
+abbrev clearsFirst : (Call → Bool → Store → Store → Store) → List Call → Call → Bool
+clearsFirst instead cs c =
+    let m = leavingModel instead in
+    let g = leftAfter m fresh cs in
+    all (spendsSlot (containedAfter m cs) c (comesTo m cs c) g (m .left g c) 0)
 
 -- the exchange after the visit, where the store before it is told to be fresh or not, and then the store behind it
 firstWrong : Bool → Bool → Bool
@@ -535,11 +625,12 @@ record Computed : Type 0 where
   first-late : not (eqb (leftBy sampleClients fresh (authorizeAt 1000 0) .time) 0) ≡ true
   first : firstWrong true false ≡ true
   spends : exchangeTests (leavingModel spent) tried 1520 0x20 ≡ true
-  clears : let g = leftAfter (leavingModel spent) fresh visit in
-      all
-      (spendsSlot (containedAfter (leavingModel spent) visit) wrongTry (comesTo (leavingModel spent) visit wrongTry) g
-      (leavingModel spent .left g wrongTry) 0)
-      ≡ true
+  challenged-typed : every isTyped challengedVisit ≡ true
+  challenged-fits : every isFitting challengedVisit ≡ true
+  ignores : exchangeTests (readingModel (seenAs isExchange unasked)) challengedVisit 1100 0x20 ≡ true
+  takes : tokenTests (readingModel (seenAs isExchange plainly)) challengedVisit exchangesWrongly challengeShown 1100 0x20 ≡ true
+  spends-unanswered : clearsFirst spentUnanswered challengedVisit unanswered ≡ true
+  clears : clearsFirst spent visit wrongTry ≡ true
   handed : exchangeTests (readingModel untimed) night 1100 0x20 ≡ true
   seconds : checkTests (answeringModel oneMore) exchanged namesWrongly accessText ≡ true
   twice : exchangeTests (leavingModel putBack) exchanged 1510 0x60 ≡ true
@@ -549,7 +640,7 @@ record Computed : Type 0 where
   other-fits : every isFitting shownByOther ≡ true
   keeps : checkTests (leavingModel unwithdrawn) shownAgain passesWrongly accessText ≡ true
   withdraws : checkTests (leavingModel withdrawn) shownByOther passesWrongly accessText ≡ true
-  widens : tokenTests (readingModel widened) exchanged refreshesWrongly wider 1510 0x60 ≡ true
+  widens : tokenTests (readingModel (seenAs isRefresh wide)) exchanged refreshesWrongly wider 1510 0x60 ≡ true
   never : checkTests (answeringModel notPassed) exchanged passesWrongly accessText ≡ true
   itself-typed : every isTyped itself ≡ true
   itself-fits : every isFitting itself ≡ true
@@ -563,7 +654,7 @@ record Computed : Type 0 where
   refuses : tokenTests (stockModel false) [] credentialsWrongly (ownFor []) 1100 0x20 ≡ true
 
 computed : Computed
-unfolding firstWrong untouchedModel spent putBack unkept unwithdrawn withdrawn shownAgain shownByOther widened itself ownFor ownText wrongTry tried exchanged wider again visit night handedAt authorizeAt header exchangeOf repeating byBarnapp tokenAt codeText accessText refreshText exchangeAt refreshFor isTyped unfitTo isFitting isNamedWrongly leftAfter eventsAfter rfcQuery handedTo asked outcomeOn withEvents withEvent isUnfit isUnfitDecision isUnfitRefusal isUnfitCheck isGranted lengthOf isPassed namedIn isLiveCheck namedBy standingAfter issuedBy codeIssue exchangeIssues refreshIssues ownIssue isSpentBy isSecondShowing codeShown isWithdrawnBy noIssue isWithinGranted noneBeyond askedOr namesOr isAdmitted idIn isRepeatedBy mayExchange mayRefresh mayHaveOwn mayPass twenties distinct keep count any firstOr replaceFirst replaceAll freeSlot fresh every same indexOf splitOn grow hexText hexDigit hexValue readHandle isHandleText unhex isBase64 base64Bytes groupBytes soundGroup sextet none encodeForm encodeByte decodeAfter firstByte extra isEscape plain wellFormed sound isWellFormedForm pieceName pieceValue gives add valueIn formValue names bitFrom bitOf union readScope chosen spaced scopeText indexWhere sampleClients sampleConfidential samplePublic isGrant isMissing isRepeated onlyValue isOnce askedBy scopeAsked fits scopeGiven isBadQuery queryClient isBadClient isBadRedirect isSoundState isBadState isInvalidRequest isOtherType isInvalidScope codeAsked pageReasons redirectReasons readAuthorization separator stateText location codeParameter errorParameter locationText isInvalidForm lowerCase sameAnyCase credentials isBadHeader headerId headerSecret presentedId presentedSecret isUnclearId isImpostor callClient isInvalidClient formReasons readExchange readRefresh readCredentials readGrant readToken wordText errorReply refusalReply tokenReply refreshMember challenges replyText firstOf unlessRefused refusedPlan codePlan exchangePlan refreshPlan credentialsPlan planFor slotsBy checkSlots serveAuthorization serveToken serveCheck
+unfolding verifies isVerifierFor readDigest isDigestText isSoundVerifier base64Text digit64 bigEndianBytes bigEndianFrom rotr ch maj bigSigma smallSigma roundConstants initialHash padding paddedMessage blockWords scheduleWord nextWord extended schedule firstSum secondSum round rounds added compressed hashed wordsBytes stateBytes digest isAnsweredBy challengeGiven isBadChallenge challengeAnswered firstWrong untouchedModel spent putBack unkept unwithdrawn withdrawn shownAgain shownByOther seenAs spentUnanswered challengedVisit challengeText verifying itself ownFor ownText wrongTry tried exchanged wider again unanswered challengeShown visit night handedAt authorizeAt header exchangeOf repeating byBarnapp tokenAt codeText accessText refreshText exchangeAt refreshFor isTyped unfitTo isFitting isNamedWrongly leftAfter eventsAfter rfcQuery handedTo asked outcomeOn withEvents withEvent isUnfit isUnfitDecision isUnfitRefusal isUnfitCheck isGranted lengthOf isPassed namedIn isLiveCheck namedBy standingAfter issuedBy codeIssue exchangeIssues refreshIssues ownIssue isSpentBy isSecondShowing codeShown isWithdrawnBy noIssue isWithinGranted noneBeyond askedOr namesOr isAdmitted idIn isRepeatedBy mayExchange mayRefresh mayHaveOwn mayPass twenties distinct keep count any firstOr replaceFirst replaceAll freeSlot fresh every same indexOf splitOn grow hexText hexDigit hexValue readHandle isHandleText unhex isBase64 base64Bytes groupBytes soundGroup sextet none encodeForm encodeByte decodeAfter firstByte extra isEscape plain wellFormed sound isWellFormedForm pieceName pieceValue gives add valueIn formValue names bitFrom bitOf union readScope chosen spaced scopeText indexWhere sampleClients sampleConfidential samplePublic isGrant isMissing isRepeated onlyValue isOnce askedBy scopeAsked fits scopeGiven isBadQuery queryClient isBadClient isBadRedirect isSoundState isBadState isInvalidRequest isOtherType isInvalidScope codeAsked pageReasons redirectReasons readAuthorization separator stateText location codeParameter errorParameter locationText isInvalidForm lowerCase sameAnyCase credentials isBadHeader headerId headerSecret presentedId presentedSecret isUnclearId isImpostor callClient isInvalidClient formReasons readExchange readRefresh readCredentials readGrant readToken wordText errorReply refusalReply tokenReply refreshMember challenges replyText firstOf unlessRefused refusedPlan codePlan exchangePlan refreshPlan credentialsPlan planFor slotsBy checkSlots serveAuthorization serveToken serveCheck
 computed = record {
   visit-typed = refl;
   visit-fits = refl;
@@ -577,6 +668,11 @@ computed = record {
   first-late = refl;
   first = refl;
   spends = refl;
+  challenged-typed = refl;
+  challenged-fits = refl;
+  ignores = refl;
+  takes = refl;
+  spends-unanswered = refl;
   clears = refl;
   handed = refl;
   seconds = refl;
@@ -666,6 +762,10 @@ pub record Useless : Type 0 where
   pub withdraws-other : Refuted withdrawsForAnyone shownByOther
   -- the refresh at 1510, which asks for more
   pub widens-exchanged : Refuted widensScope exchanged
+  -- the exchange at 1100 of a code with a challenge: without a verifier, which yields, and which clears the slot; and with the challenge as verifier
+  pub ignores-challenged : Refuted ignoresVerifier challengedVisit
+  pub unanswered-challenged : Refuted spendsUnanswered challengedVisit
+  pub takes-challenged : Refuted takesChallenge challengedVisit
   -- the location at 1000, the reply to a client for itself and that to the exchange at 1100, the reply to the refresh at 1510
   pub silent-none : Refuted writesNothing []
   pub silent-own : Refuted writesNothing []
@@ -677,10 +777,11 @@ pub record Useless : Type 0 where
   pub yields-none : Refuted yieldsAlways []
 
 pub useless : Useless
-unfolding inventedSeconds neverPasses writesNothing saysNoLength spendsOnRefusal codeTwice forgetsOwn keepsTokens withdrawsForAnyone yieldsAlways AllWellTyped every handedAt tokenAt wrongTry
+unfolding inventedSeconds neverPasses writesNothing saysNoLength spendsOnRefusal codeTwice forgetsOwn keepsTokens withdrawsForAnyone yieldsAlways AllWellTyped every handedAt tokenAt wrongTry unanswered ignoresVerifier takesChallenge spendsUnanswered widensScope freeSlot
 useless =
     let visit-typed = tested-calls visit (computed .visit-typed) in
     let exchanged-typed = tested-calls exchanged (computed .exchanged-typed) in
+    let challenged-typed = tested-calls challengedVisit (computed .challenged-typed) in
     let silent-follows = answering-follows unwritten (λ c r. refl) in
     let code-typed : WellTyped (authorization rfcQuery 1 7 (handedAt 1000 20 0)) = (lit< tt, tested-bytes (countUp 20 0) refl) in
     let token-typed = tested-bytes (countUp 40 0x60) refl in
@@ -720,8 +821,23 @@ useless =
       widens-exchanged = record {
         typed = exchanged-typed;
         fails =
-            refresh-fails widens-follows exchanged exchanged-typed (computed .exchanged-fits) header wider (handedAt 1510 40 0x60) token-typed
+            refresh-fails (seeing-follows isRefresh wide sound-wide (λ body. refl)) exchanged exchanged-typed (computed .exchanged-fits) header wider (handedAt 1510 40 0x60) token-typed
             (computed .widens);
+      };
+      ignores-challenged =
+          exchange-refuted (seeing-follows isExchange unasked sound-unasked (λ body. refl)) challengedVisit (computed .challenged-typed)
+          (computed .challenged-fits) 1100 0x20 refl (computed .ignores);
+      unanswered-challenged = record {
+        typed = challenged-typed;
+        fails =
+            spend-fails (leaving-follows spentUnanswered sound-unanswered) challengedVisit challenged-typed (computed .challenged-fits) unanswered
+            (tested-bytes (countUp 40 0x20) refl) 0 (lit< tt) (computed .spends-unanswered);
+      };
+      takes-challenged = record {
+        typed = challenged-typed;
+        fails =
+            exchange-fails (seeing-follows isExchange plainly sound-plainly (λ body. refl)) challengedVisit challenged-typed
+            (computed .challenged-fits) header challengeShown (handedAt 1100 40 0x20) (tested-bytes (countUp 40 0x20) refl) (computed .takes);
       };
       silent-none = record {
         typed = tt;

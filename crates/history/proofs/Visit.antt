@@ -32,11 +32,12 @@ use Rattle.protocol.specs.Authorization.{location, codeParameter, isSoundState,
 use Rattle.protocol.specs.ClientForms.{isInvalidForm, lowerCase, sameAnyCase, credentials, isBadHeader, headerId, headerSecret, presentedId, presentedSecret, isUnclearId, isImpostor, callClient, isInvalidClient, formReasons}
 use Rattle.protocol.specs.Token.{readToken, tokenReply, refreshMember, readExchange, readRefresh, readGrant}
 use Rattle.protocol.specs.Outcomes.{Handed}
+use Rattle.protocol.proofs.Cases.{challenge}
 use Rattle.protocol.proofs.Starred.{countUp, rfcQuery}
 use Rattle.history.specs.Calls.{Call, authorization, token, check, WellTyped, AllWellTyped, Result, storeAfterAll, events, freshStore, handedTo}
 use Rattle.history.specs.Contents.{code, access, refresh, Issue, isA, isLiveAt, isOf, originOf, valueOf, isExchange, isRefresh, isCredentials, askedOr, idIn, caller, isAdmitted, isSecondShowing, codeShown, firstTwenty, lastTwenty, Contents, nothingYet, withEvents, twenties, noIssue, noneBeyond, isWithinGranted, namesOr}
 use Rattle.history.specs.Slots.{holdsTokenFrom}
-use Rattle.history.specs.Claim.{mayExchange, mayRefresh, mayHaveOwn, mayPass, Answers, contained, next, Judged, Asks, Demand3, isRepeatedBy}
+use Rattle.history.specs.Claim.{mayExchange, mayRefresh, mayHaveOwn, mayPass, Answers, contained, next, Judged, Asks, Demand3, isRepeatedBy, isAnsweredBy, verifies}
 use Rattle.history.specs.Server.{ours}
 use Rattle.history.proofs.SoundStores.{sound-fresh}
 use Rattle.history.proofs.AnyCall.{unfitTo}
@@ -45,7 +46,7 @@ use Rattle.history.proofs.Theorem.{demand3, credentials-yield}
 use Rattle.history.proofs.CallsOnRecords.{resultOn, leftByAll, eventsOn, isFitting, Replayed, replay, replay-result, replay-fit}
 pub use Rattle.history.proofs.Sample.{sample-clients, sample-bytes}
 use Rattle.history.proofs.Sample.{sample-fit, tested-bytes, distinct-never}
-use Rattle.history.proofs.Examples.{inVisit, asking, exchangeAt, authorizeAt, codeText, lessText, refreshText, againText, barnQuery, barnAccess, barnBody, handedAt, header, codedHeader, exchangeOf, repeating, tokenAt, refreshFor, visit, day, evening, leak, Case, Cases, cases, yields, may, isTyped, isAsked, isJudged, leftIn, containedIn, inDay, inEvening, inLeak, claimAgrees, agreesOn, agrees, computed, accessText, barnCode, barnText, barnToken, codeUntil, redirect, tokenUntil, ownFor, ownText, lessOwnText, pumps, ownUntil, inPumps}
+use Rattle.history.proofs.Examples.{barnTry, challengeText, inVisit, asking, exchangeAt, authorizeAt, codeText, lessText, refreshText, againText, barnQuery, barnAccess, barnBody, handedAt, header, codedHeader, exchangeOf, repeating, tokenAt, refreshFor, visit, day, evening, leak, Case, Cases, cases, yields, may, isTyped, isAsked, isJudged, leftIn, containedIn, inDay, inEvening, inLeak, claimAgrees, agreesOn, agrees, computed, accessText, barnCode, barnText, barnToken, codeUntil, redirect, tokenUntil, ownFor, ownText, lessOwnText, pumps, ownUntil, inPumps}
 
 -- ---- what the claim speaks of
 
@@ -223,12 +224,12 @@ module _ (run : Run) where
 
   by-spends-nothing : (c : Call) → isJudged k c ≡ true → after c .granted ≡ false
       → (i : ℕ) → i < 512
-      → let slot = part (encodeStore (leftIn cs)) (8 + i * 55) 55 in
+      → let slot = part (encodeStore (leftIn cs)) (8 + i * 67) 67 in
       let second = isSecondShowing sampleClients (max (handedTo c .clock) (k .highest)) (k .standing) c in
-      part (after c .store) (8 + i * 55) 55 ≡ cond (second && holdsTokenFrom (codeShown c) slot) (replicate 55 0) slot
+      part (after c .store) (8 + i * 67) 67 ≡ cond (second && holdsTokenFrom (codeShown c) slot) (replicate 67 0) slot
   by-spends-nothing c j refused i below =
       let Left : Bool → List ℕ → List ℕ = λ second b.
-      let slot = part b (8 + i * 55) 55 in cond (second && holdsTokenFrom (codeShown c) slot) (replicate 55 0) slot
+      let slot = part b (8 + i * 67) 67 in cond (second && holdsTokenFrom (codeShown c) slot) (replicate 67 0) slot
       in
       let second =
       ap (λ (clients : List Client). isSecondShowing clients (max (handedTo c .clock) (contained ours sampleRegistry cs .highest)) (contained ours sampleRegistry cs .standing) c) sample-clients
@@ -344,13 +345,16 @@ pub record Shown : Type 0 where
       ≡ bytes "https://barn.example/r?x=1&code=c0c1c2c3c4c5c6c7c8c9cacbcccdcecfd0d1d2d3"
   -- a try without the redirect_uri is refused, and the code's slot, bound, for client 0, farm 7, scopes 10 and until 2106, keeps its bytes
   pub kept : (i : ℕ) → i < 512
-      → part (afterDay (asking header (exchangeOf lessText) 1510) .store) (8 + i * 55) 55 ≡ part (encodeStore (leftIn day)) (8 + i * 55) 55
-  pub kept-code : part (afterDay (asking header (exchangeOf lessText) 1510) .store) (8 + 5 * 55) 55
-      ≡ 2 ∷ countUp 20 3 ++ 0 ∷ 0 ∷ 0 ∷ 0 ∷ 7 ∷ 10 ∷ 0 ∷ 0 ∷ 0 ∷ 0 ∷ 0 ∷ 0 ∷ 8 ∷ 58 ∷ replicate 20 0
+      → part (afterDay (asking header (exchangeOf lessText) 1510) .store) (8 + i * 67) 67 ≡ part (encodeStore (leftIn day)) (8 + i * 67) 67
+  pub kept-code : part (afterDay (asking header (exchangeOf lessText) 1510) .store) (8 + 5 * 67) 67
+      ≡ 2 ∷ countUp 20 3 ++ 0 ∷ 0 ∷ 0 ∷ 0 ∷ 7 ∷ 10 ∷ 0 ∷ 0 ∷ 0 ∷ 0 ∷ 0 ∷ 0 ∷ 8 ∷ 58 ∷ replicate 32 0
+  -- a try without the verifier likewise, and the code keeps its challenge
+  pub kept-challenge : part (afterDay (asking [] (barnTry []) 1510) .store) (8 + 4 * 67) 67
+      ≡ 6 ∷ countUp 20 0x80 ++ 1 ∷ 0 ∷ 0 ∷ 0 ∷ 9 ∷ 1 ∷ 0 ∷ 0 ∷ 0 ∷ 0 ∷ 0 ∷ 0 ∷ 8 ∷ 57 ∷ challenge
   -- the exchanged code is shown again: its access token's slot is zero, its own keeps its bytes, and the token no longer passes
-  pub cleared : part (afterDay (asking header (exchangeOf codeText) 1510) .store) (8 + 55) 55 ≡ replicate 55 0
-  pub kept-spent : part (afterDay (asking header (exchangeOf codeText) 1510) .store) 8 55
-      ≡ 5 ∷ countUp 20 0 ++ 0 ∷ 0 ∷ 0 ∷ 0 ∷ 7 ∷ 11 ∷ 0 ∷ 0 ∷ 0 ∷ 0 ∷ 0 ∷ 0 ∷ 6 ∷ 64 ∷ replicate 20 0
+  pub cleared : part (afterDay (asking header (exchangeOf codeText) 1510) .store) (8 + 67) 67 ≡ replicate 67 0
+  pub kept-spent : part (afterDay (asking header (exchangeOf codeText) 1510) .store) 8 67
+      ≡ 5 ∷ countUp 20 0 ++ 0 ∷ 0 ∷ 0 ∷ 0 ∷ 7 ∷ 11 ∷ 0 ∷ 0 ∷ 0 ∷ 0 ∷ 0 ∷ 0 ∷ 6 ∷ 64 ∷ replicate 32 0
   pub withdrawn : next ours sampleRegistry leak (check accessText 1601) .passed ≡ false
 
 unfoldable pub theVisit : Run
@@ -369,7 +373,7 @@ pub thePumps : Run
 thePumps = record { calls = pumps; typed = computed .pumps-typed; contents = inPumps; contains = computed .pumps-contain }
 
 pub shown : Shown
-unfolding theLeak inLeak isSecondShowing codeShown mayPass thePumps ownFor ownText lessOwnText ownUntil inPumps mayHaveOwn theVisit theDay theEvening inVisit barnText redirect codeUntil tokenUntil barnCode inDay barnBody barnToken barnAccess inEvening isTyped isAsked isJudged handedAt authorizeAt header exchangeOf repeating tokenAt codeText accessText refreshText exchangeAt refreshFor barnQuery againText lessText rfcQuery handedTo unfitTo isFitting noIssue noneBeyond isWithinGranted namesOr askedOr twenties idIn isAdmitted isRepeatedBy mayExchange mayRefresh distinct count any firstOr every same indexOf splitOn grow hexText hexDigit hexValue isBase64 base64Bytes groupBytes soundGroup sextet none decodeAfter firstByte extra isEscape plain wellFormed sound encode encodeByte isWellFormedForm pieceName pieceValue gives add valueIn formValue names bitFrom bitOf union readScope chosen spaced scopeText indexWhere sampleClients sampleConfidential samplePublic isMissing isRepeated onlyValue isOnce askedBy scopeAsked isSoundState separator stateText location codeParameter isInvalidForm lowerCase sameAnyCase credentials isBadHeader headerId headerSecret presentedId presentedSecret isUnclearId isImpostor callClient isInvalidClient formReasons readExchange readRefresh readGrant readToken tokenReply refreshMember firstOf unlessRefused
+unfolding theLeak inLeak isSecondShowing codeShown mayPass thePumps ownFor ownText lessOwnText ownUntil inPumps mayHaveOwn theVisit theDay theEvening inVisit barnText redirect codeUntil tokenUntil barnCode inDay barnBody barnToken barnAccess inEvening isTyped isAsked isJudged handedAt authorizeAt header exchangeOf repeating tokenAt codeText accessText refreshText exchangeAt refreshFor barnQuery againText lessText rfcQuery handedTo unfitTo isFitting noIssue noneBeyond isWithinGranted namesOr askedOr twenties idIn isAdmitted isRepeatedBy isAnsweredBy verifies barnTry challengeText mayExchange mayRefresh distinct count any firstOr every same indexOf splitOn grow hexText hexDigit hexValue isBase64 base64Bytes groupBytes soundGroup sextet none decodeAfter firstByte extra isEscape plain wellFormed sound encode encodeByte isWellFormedForm pieceName pieceValue gives add valueIn formValue names bitFrom bitOf union readScope chosen spaced scopeText indexWhere sampleClients sampleConfidential samplePublic isMissing isRepeated onlyValue isOnce askedBy scopeAsked isSoundState separator stateText location codeParameter isInvalidForm lowerCase sameAnyCase credentials isBadHeader headerId headerSecret presentedId presentedSecret isUnclearId isImpostor callClient isInvalidClient formReasons readExchange readRefresh readGrant readToken tokenReply refreshMember firstOf unlessRefused
 shown = record {
   in-time = record { exchange = refl; asked = refl; judged = refl; says = refl };
   too-late = record { exchange = refl; asked = refl; judged = refl; says = refl };
@@ -433,14 +437,17 @@ shown = record {
   kept-code =
       by-spends-nothing theDay (asking header (exchangeOf lessText) 1510) refl
       (by-exchanges theDay header (exchangeOf lessText) (handedAt 1510 40 0xC0) refl refl refl) 5 (lit< tt) ∙ computed .code-kept;
+  kept-challenge =
+      by-spends-nothing theDay (asking [] (barnTry []) 1510) refl
+      (by-exchanges theDay [] (barnTry []) (handedAt 1510 40 0xC0) refl refl refl) 4 (lit< tt) ∙ computed .challenge-kept;
   cleared =
       by-spends-nothing theDay (asking header (exchangeOf codeText) 1510) refl
       (by-exchanges theDay header (exchangeOf codeText) (handedAt 1510 40 0xC0) refl refl refl) 1 (lit< tt)
-      ∙ ap (λ (b : Bool). cond b (replicate 55 0) (part (encodeStore (leftIn day)) (8 + 55) 55)) (computed .token-held);
+      ∙ ap (λ (b : Bool). cond b (replicate 67 0) (part (encodeStore (leftIn day)) (8 + 67) 67)) (computed .token-held);
   kept-spent =
       by-spends-nothing theDay (asking header (exchangeOf codeText) 1510) refl
       (by-exchanges theDay header (exchangeOf codeText) (handedAt 1510 40 0xC0) refl refl refl) 0 (lit< tt)
-      ∙ ap (λ (b : Bool). cond b (replicate 55 0) (part (encodeStore (leftIn day)) 8 55)) (computed .none-held)
+      ∙ ap (λ (b : Bool). cond b (replicate 67 0) (part (encodeStore (leftIn day)) 8 67)) (computed .none-held)
       ∙ computed .code-spent;
   withdrawn = by-passes theLeak accessText 1601 refl;
 }

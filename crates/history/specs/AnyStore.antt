@@ -100,9 +100,9 @@ refusalAnswer (check presented clock) r long = checkAnswer (Refused r)
 -- ---- the one refusal that changes more: "the same client, authenticated, presents a live spent code (sought only where no unspent
 -- code has its handle)"
 
--- a code of this text that is not spent, kinds 1 and 2; and one that is, kind 5
+-- a code of this text that is not spent, kinds 1 and 2, and with a challenge 6 and 7; and one that is, kind 5
 abbrev pub isUnspent : List ℕ → Slot → Bool
-isUnspent text s = (eqb (s .kind) 1 || eqb (s .kind) 2) && isTextOf text (s .handle)
+isUnspent text s = any (λ kind. eqb (s .kind) kind) (1 ∷ 2 ∷ 6 ∷ 7 ∷ []) && isTextOf text (s .handle)
 
 abbrev pub isSpent : List ℕ → Slot → Bool
 isSpent text s = eqb (s .kind) 5 && isTextOf text (s .handle)

@@ -1,14 +1,16 @@
 -- Demand 3: one claim about every list of calls, and any server; at the end what is claimed beyond it.
 use Prim.Native.Nat.{ℕ, _+_, _-_, _*_, _<_, max}
 use mathlib.Core.Path.{_≡_}
-use mathlib.Core.Bool.{Bool, true, false, cond, _&&_}
+use mathlib.Core.Bool.{Bool, true, false, cond, _&&_, _||_}
 use mathlib.Core.List.{List, [], _++_, List·Memᴰ}
 use lib.Dec.{leb, eqb}
 use lib.ListN.{length, replicate}
 use lib.Seq.{sets}
 use Rattle.octets.specs.Text.{bytes}
-use Rattle.octets.specs.Lists.{part}
+use Rattle.octets.specs.Lists.{part, every, same}
 use Rattle.octets.specs.Search.{count, any}
+use Rattle.encoding.specs.Base64.{url, base64Text}
+use Rattle.sha256.specs.Digest.{digest}
 use Rattle.form.specs.Content.{Value, missing, once, repeated, formValue, isOnce}
 use Rattle.client_registry.specs.Registry.{Client, clientsOf}
 use Rattle.client_registry.specs.Lookup.{numberOf, clientAt}
@@ -33,14 +35,34 @@ isRepeatedBy missing given = true
 isRepeatedBy (once address) given = isOnce address given
 isRepeatedBy repeated given = false
 
+-- RFC 7636, section 4.1: "unreserved = ALPHA / DIGIT / "-" / "." / "_" / "~""
+abbrev pub isUnreserved : ℕ → Bool
+isUnreserved c = leb 65 c && leb c 90 || leb 97 c && leb c 122 || leb 48 c && leb c 57 || any (eqb c) (bytes "-._~")
+
+-- "43 to 128 unreserved characters", whose SHA-256 is the challenge, written in base64url
+unfoldable pub isVerifierFor : List ℕ → List ℕ → Bool
+isVerifierFor challenge v = leb 43 (length v) && leb (length v) 128 && every isUnreserved v && same challenge (base64Text url (digest v))
+
+unfoldable pub verifies : List ℕ → Value → Bool
+verifies challenge missing = false
+verifies challenge (once v) = isVerifierFor challenge v
+verifies challenge repeated = false
+
+-- "An exchange whose verifier is missing, malformed .. or of another digest"; "a verifier for a code without challenge .. is ignored"
+unfoldable pub isAnsweredBy : Value → Value → Bool
+isAnsweredBy missing verifier = true
+isAnsweredBy (once challenge) verifier = verifies challenge verifier
+isAnsweredBy repeated verifier = false
+
 module _ (clients : List Client) (t : ℕ) (standing : List Issue) (header body : List ℕ) where
   -- "an issue of that code to that client, live by the highest clock seen, not yet exchanged, any bound redirect address is
-  -- repeated"
+  -- repeated"; "Demand 3's list of conditions gains this one", that a challenge is answered
   abbrev pub isExchangeable : Issue → Bool
   isExchangeable e =
       isLiveAt t e
       && (isA code e && isOf (valueOf body (bytes "code")) e
-      && (eqb (e .client) (caller clients header body) && isRepeatedBy (e .address) (formValue body (bytes "redirect_uri"))))
+      && (eqb (e .client) (caller clients header body) && isRepeatedBy (e .address) (formValue body (bytes "redirect_uri"))
+      && isAnsweredBy (e .challenge) (formValue body (bytes "code_verifier"))))
 
   -- "and there is room"
   unfoldable pub mayExchange : Bool
@@ -146,13 +168,13 @@ module _ (server : Server) (registry : List ℕ) (cs : List Call) where
         → let redirect = clientAt clients (numberOf (valueOf query (bytes "client_id")) clients) .redirect in
         let parameter = codeParameter (firstTwenty (handed .random)) in
         Answers handed (next (authorization query decision farm handed)) (location redirect parameter (formValue query (bytes "state")))
-    -- "A refused try spends nothing": "after a refused try every slot keeps its bytes", 512 slots of 55 bytes behind the mark. "its last
+    -- "A refused try spends nothing": "after a refused try every slot keeps its bytes", 512 slots of 67 bytes behind the mark. "its last
     -- sentence excepts that one refusal, which clears those tokens and nothing else"
     pub spendsNothing : (c : Call) → Judged c → next c .granted ≡ false
         → (i : ℕ) → i < 512
-        → let slot = part store (8 + i * 55) 55 in
+        → let slot = part store (8 + i * 67) 67 in
         let clears = isSecondShowing clients (timeAt (handedTo c .clock)) standing c && holdsTokenFrom (codeShown c) slot in
-        part (next c .store) (8 + i * 55) 55 ≡ cond clears (replicate 55 0) slot
+        part (next c .store) (8 + i * 67) 67 ≡ cond clears (replicate 67 0) slot
 
   -- Beyond the demand, which holds of a server that issues nothing: a well-formed request of an admitted client for itself yields
   -- exactly when the client is confidential, the scope asked is within its set, and there is room for one.

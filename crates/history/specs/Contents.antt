@@ -11,7 +11,7 @@ use Rattle.octets.specs.Text.{bytes}
 use Rattle.octets.specs.Lists.{part, every, same, indexOf}
 use Rattle.octets.specs.Search.{count, any, firstOr, keep}
 use Rattle.encoding.specs.Hex.{hexText}
-use Rattle.encoding.specs.Base64.{base64Bytes}
+use Rattle.encoding.specs.Base64.{standard, base64Bytes}
 use Rattle.form_coding.specs.Coding.{decode}
 use Rattle.form.specs.Content.{Value, missing, once, repeated, formValue, onlyValue, isOnce}
 use Rattle.scope.specs.Set.{has}
@@ -40,6 +40,8 @@ pub record Issue : Type 0 where
   pub scope : ℕ
   -- of a code: the redirect address that was given, if any, which must be repeated
   pub address : Value
+  -- of a code: the challenge that was given, if any, which a verifier must answer
+  pub challenge : Value
   pub expiry : ℕ
   -- the text of the code that it came from; a code, and a client's token for itself, came from itself
   pub origin : List ℕ
@@ -78,6 +80,7 @@ noIssue = record {
   farm = 0;
   scope = 0;
   address = missing;
+  challenge = missing;
   expiry = 0;
   origin = hexText (replicate 20 0);
 }
@@ -126,7 +129,7 @@ askedOr repeated granted = granted
 -- the body
 unfoldable pub idIn : List ℕ → List ℕ → List ℕ
 idIn [] body = valueOf body (bytes "client_id")
-idIn (b ∷ bs) body = let pair = base64Bytes (drop 6 (b ∷ bs)) in decode (take (indexOf 58 pair) pair)
+idIn (b ∷ bs) body = let pair = base64Bytes standard (drop 6 (b ∷ bs)) in decode (take (indexOf 58 pair) pair)
 
 -- the number of the client that calls
 abbrev pub caller : List Client → List ℕ → List ℕ → ℕ
@@ -173,6 +176,7 @@ codeIssue clients t query farm r =
       farm = farm;
       scope = askedOr (formValue query (bytes "scope")) (client .scope);
       address = formValue query (bytes "redirect_uri");
+      challenge = formValue query (bytes "code_challenge");
       expiry = t + lifetime code;
       origin = codeIn client r;
     }
@@ -186,6 +190,7 @@ tokenIssue sort t text shown origin scope = record {
   farm = shown .farm;
   scope = scope;
   address = missing;
+  challenge = missing;
   expiry = t + lifetime sort;
   origin = origin;
 }
@@ -214,6 +219,7 @@ ownIssue clients t header body r =
       farm = 0;
       scope = askedOr (formValue body (bytes "scope")) (clientAt clients number .scope);
       address = missing;
+      challenge = missing;
       expiry = t + lifetime access;
       origin = accessIn r;
     }
@@ -241,6 +247,7 @@ asSpent e = record {
   farm = e .farm;
   scope = e .scope;
   address = e .address;
+  challenge = e .challenge;
   expiry = e .expiry;
   origin = e .origin;
 }

@@ -3,6 +3,7 @@ use Prim.Native.Nat.{ℕ}
 use mathlib.Core.Bool.{Bool, _&&_, _||_}
 use mathlib.Core.List.{List}
 use lib.Dec.{eqb}
+use lib.ListN.{take}
 use Rattle.octets.specs.Lists.{same}
 use Rattle.encoding.specs.Hex.{readHandle}
 use Rattle.token_store.specs.Store.{decodeSlot}
@@ -11,6 +12,6 @@ use Rattle.token_store.specs.Store.{decodeSlot}
 abbrev pub isTextOf : List ℕ → List ℕ → Bool
 isTextOf text handle = let shown = readHandle text in shown .valid && same (shown .bytes) handle
 
--- by a slot's bytes: "3 access; 4 refresh", and the origin is the code of this text
+-- by a slot's bytes: "3 access; 4 refresh", and the origin, the first twenty bytes of the link, is the code of this text
 abbrev pub holdsTokenFrom : List ℕ → List ℕ → Bool
-holdsTokenFrom text slot = let s = decodeSlot slot in (eqb (s .kind) 3 || eqb (s .kind) 4) && isTextOf text (s .origin)
+holdsTokenFrom text slot = let s = decodeSlot slot in (eqb (s .kind) 3 || eqb (s .kind) 4) && isTextOf text (take 20 (s .link))

@@ -12,6 +12,7 @@ use lib.Dec.{ltb}
 use lib.ListN.{length}
 use Rattle.octets.specs.Text.{bytes}
 use Rattle.form.specs.Content.{formValue, isMissing, isOnce}
+use Rattle.encoding.specs.declared.DigestText.{DigestText}
 use Rattle.encoding.specs.declared.HandleText.{HandleText}
 use Rattle.client_registry.specs.Registry.{Client, fitRegistry, clientsOf}
 use Rattle.client_registry.specs.Lookup.{clientAt}
@@ -31,9 +32,9 @@ use Rattle.protocol.specs.declared.ExchangeRequest.{ExchangeRequest}
 use Rattle.protocol.specs.declared.RefreshRequest.{RefreshRequest}
 use Rattle.protocol.specs.declared.CredentialsRequest.{CredentialsRequest}
 use Rattle.protocol.specs.declared.Reading.{Reading}
-use Rattle.protocol.specs.declared.Request.the-variants.{Code, Exchange, Refresh, Credentials}
-use Rattle.protocol.specs.Requests.{unlessRefused, presentingNone}
-use Rattle.protocol.specs.Authorization.{queryClient, codeAsked, pageReasons, redirectReasons, readAuthorization}
+use Rattle.protocol.specs.declared.Request.the-variants.{Exchange, Refresh, Credentials}
+use Rattle.protocol.specs.Requests.{unlessRefused, noChallenge, presentingNone}
+use Rattle.protocol.specs.Authorization.{queryClient, pageReasons, redirectReasons, codeReading, readAuthorization}
 use Rattle.protocol.specs.ClientForms.{callClient, formReasons}
 use Rattle.protocol.specs.Token.{readExchange, readRefresh, credentialsReasons, readCredentials, readGrant, tokenNames, readToken}
 use Rattle.protocol.specs.Refusals.{Reason, when, firstOf}
@@ -64,11 +65,10 @@ unfolding serveAuthorization readAuthorization pageReasons redirectReasons unles
 authorization-decides query decision farm registry store handed =
     let clients = clientsOf registry in
     let client = clientAt clients (queryClient clients query) in
-    let code = codeAsked clients query farm in
     answered (authorizationEndpoint query decision farm) registry store handed (λ a. ofAuthorization (a .decision) ≡ true) (λ i. refl)
     (λ t slots.
     let plan : Reading → Plan = planOf t slots (handed .random) in
-    let reading : Reading = presentingNone (Code code) in
+    let reading : Reading = codeReading clients query farm in
     decided (λ d. ofAuthorization (decisionOn (plan (unlessRefused d reading))) ≡ true)
     (pageReasons clients query ++ redirectReasons client query decision farm) (refl, (refl, (refl, (refl, (refl, (refl, (refl, tt)))))))
     (λ _. decided (λ d. ofAuthorization d ≡ true) (plan reading .reasons) (refl, (refl, tt)) (λ _. refl)))
@@ -83,12 +83,15 @@ module _ (t : ℕ) (slots : List Slot) (random : List ℕ) where
   either true x y p q = p
   either false x y p q = q
 
-  exchange-decides : (presented : HandleText) (r : ExchangeRequest) → Decides (record { request = Exchange r; presented = presented })
+  exchange-decides : (presented : HandleText) (answered : DigestText) (r : ExchangeRequest)
+      → Decides (record { request = Exchange r; presented = presented; challenge = answered })
   unfolding planFor exchangePlan ofToken
-  exchange-decides presented r =
-      decided (λ d. ofToken d ≡ true) (exchangePlan t slots random presented r .reasons) (refl, (refl, (refl, (refl, tt)))) (λ _. refl)
+  exchange-decides presented answered r =
+      decided (λ d. ofToken d ≡ true) (exchangePlan t slots random presented answered r .reasons)
+      (refl, (refl, (refl, (refl, (refl, tt))))) (λ _. refl)
 
-  refresh-decides : (presented : HandleText) (r : RefreshRequest) → Decides (record { request = Refresh r; presented = presented })
+  refresh-decides : (presented : HandleText) (r : RefreshRequest)
+      → Decides (record { request = Refresh r; presented = presented; challenge = noChallenge })
   unfolding planFor refreshPlan ofToken
   refresh-decides presented r =
       decided (λ d. ofToken d ≡ true) (refreshPlan t slots random presented r .reasons) (refl, (refl, (refl, (refl, tt)))) (λ _. refl)
@@ -107,7 +110,7 @@ module _ (t : ℕ) (slots : List Slot) (random : List ℕ) where
       let missing : List ℕ → List Reason = λ name. when (isMissing (formValue body name)) (Token InvalidRequest) ∷ [] in
       decided (P _) (formReasons tokenNames (bytes "grant_type") clients header body) (refl, (refl, tt))
       (λ _. either (isOnce (bytes "authorization_code") grant) _ _
-      (decided (P _) (missing (bytes "code")) (refl, tt) (λ _. exchange-decides _ _))
+      (decided (P _) (missing (bytes "code")) (refl, tt) (λ _. exchange-decides _ _ _))
       (either (isOnce (bytes "refresh_token") grant) _ _
       (decided (P _) (missing (bytes "refresh_token")) (refl, tt) (λ _. refresh-decides _ _))
       (either (isOnce (bytes "client_credentials") grant) _ _

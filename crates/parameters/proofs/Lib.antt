@@ -1,4 +1,5 @@
--- Laws of values that are decoded into a buffer, and of the scope and the state that they are.
+-- Laws of values that are decoded into a buffer, and of the scope, the state and the challenge that they are.
 pub mod Buffers
 pub mod Scopes
 pub mod States
+pub mod Challenges

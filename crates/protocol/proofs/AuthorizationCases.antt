@@ -2,7 +2,8 @@
 -- on both sides.
 --
 -- In order: queries that are answered with a page (refusals 5 to 7), each redirect with an error word, and codes. Reasons stand in the
--- order in which they count, and between two neighbours a query to which both apply, and the same with the first mended.
+-- order in which they count, and between two neighbours a query to which both apply, and the same with the first mended. The faults of a
+-- challenge are in `ChallengeCases`.
 use Prim.Native.Nat.{ℕ, _-_, _^_}
 use Prim.Native.String.{String}
 use mathlib.Core.Path.{refl}
@@ -13,6 +14,7 @@ use Rattle.octets.specs.Lists.{every, same, indexOf, splitOn, grow}
 use Rattle.octets.specs.Search.{count, any, indexWhere, replaceFirst}
 use Rattle.octets.specs.BigEndian.{bigEndianBytes}
 use Rattle.encoding.specs.Hex.{hexText, hexDigit, hexValue}
+use Rattle.encoding.specs.Base64.{readDigest, isDigestText, isBase64, base64Bytes, groupBytes, soundGroup, sextet, none}
 use Rattle.form_coding.specs.Coding.{decodeAfter, firstByte, extra, isEscape, plain, wellFormed, sound, encode, encodeByte}
 use Rattle.form.specs.Content.{isWellFormedForm, pieceName, pieceValue, gives, add, valueIn, formValue, isMissing, isRepeated, onlyValue, isOnce}
 use Rattle.scope.specs.Set.{names}
@@ -20,15 +22,15 @@ use Rattle.scope.specs.Value.{bitFrom, bitOf, union, readScope}
 use Rattle.client_registry.specs.Registry.{soundText, soundId, soundRedirect, soundSecret, soundField, soundCommon, soundPublic, soundConfidential, soundRecord, recordSize, recordsBehind, soundRecords, distinct, fitRegistry}
 use Rattle.client_registry.specs.Sample.{recordOf, registryOf, sampleConfidential, samplePublic, sampleClients, sampleRegistry}
 use Rattle.token_store.specs.Store.{freeSlot, concat, encodeSlot}
-use Rattle.token_store.specs.Fit.{fitSlot}
+use Rattle.token_store.specs.Fit.{fitLink, fitSlot}
 use Rattle.token_store.specs.declared.Slot.{Slot}
 use Rattle.protocol.specs.Answers.{wordText}
 use Rattle.protocol.specs.Refusals.{firstOf}
 use Rattle.protocol.specs.Requests.{askedBy, scopeAsked, fits, scopeGiven, unlessRefused}
-use Rattle.protocol.specs.Authorization.{isBadQuery, queryClient, isBadClient, isBadRedirect, isSoundState, isBadState, isInvalidRequest, isOtherType, isInvalidScope, codeAsked, pageReasons, redirectReasons, readAuthorization, separator, stateText, location, codeParameter, errorParameter, locationText}
+use Rattle.protocol.specs.Authorization.{isBadQuery, queryClient, isBadClient, isBadRedirect, isSoundState, isBadState, challengeGiven, isBadChallenge, isInvalidRequest, isOtherType, isInvalidScope, codeAsked, pageReasons, redirectReasons, readAuthorization, separator, stateText, location, codeParameter, errorParameter, locationText}
 use Rattle.protocol.specs.Granting.{refusedPlan, codePlan, planFor, slotsBy}
 use Rattle.protocol.specs.Outcomes.{serveAuthorization}
-use Rattle.protocol.proofs.Cases.{authorization, holding, slot, countUp, Case, Row, row}
+use Rattle.protocol.proofs.Cases.{authorization, holding, slot, linked, challenge, challenging, countUp, Case, Row, row}
 
 -- ---- the usual call: at clock 1000 and a fresh store, random bytes 00 to 13 hex, an output of 1,024 bytes, a farm, which mostly is 7
 
@@ -91,16 +93,16 @@ code query kind scope state = codeOn (bytes query) kind scope (bytes state)
 abbrev barnCode : List ℕ → String → Case
 barnCode query state =
     decides query 1 (0 ∷ 0 ∷ []) (bytes "https://barn.example/r?x=1&code=000102030405060708090a0b0c0d0e0f10111213" ++ bytes state)
-    (slot 1 (countUp 20 0) 1 7 1 1600 ∷ [])
+    (linked challenge (slot 6 (countUp 20 0) 1 7 1 1600) ∷ [])
 
 -- a query of client 1, n bytes in all
 abbrev longQuery : ℕ → List ℕ
-longQuery n = let start = bytes "response_type=code&client_id=barnapp&x=" in start ++ replicate (n - length start) 97
+longQuery n = let start = bytes "response_type=code&client_id=barnapp" ++ challenging ++ bytes "&x=" in start ++ replicate (n - length start) 97
 
 -- ---- pages
 
 pub pages : List Row
-unfolding every same indexOf splitOn grow any indexWhere bigEndianBytes hexValue decodeAfter firstByte extra isEscape plain wellFormed sound encode encodeByte isWellFormedForm pieceName pieceValue gives add valueIn formValue isMissing isRepeated onlyValue isOnce soundText soundId soundRedirect soundSecret soundField soundCommon soundPublic soundConfidential soundRecord recordSize recordsBehind soundRecords distinct fitRegistry recordOf registryOf sampleConfidential samplePublic sampleClients sampleRegistry freeSlot concat encodeSlot fitSlot wordText firstOf unlessRefused isBadQuery queryClient isBadClient isBadRedirect isSoundState isBadState isInvalidRequest isOtherType pageReasons redirectReasons readAuthorization separator stateText location errorParameter locationText refusedPlan planFor slotsBy serveAuthorization
+unfolding every same indexOf splitOn grow any indexWhere bigEndianBytes hexValue decodeAfter firstByte extra isEscape plain wellFormed sound encode encodeByte isWellFormedForm pieceName pieceValue gives add valueIn formValue isMissing isRepeated onlyValue isOnce soundText soundId soundRedirect soundSecret soundField soundCommon soundPublic soundConfidential soundRecord recordSize recordsBehind soundRecords distinct fitRegistry recordOf registryOf sampleConfidential samplePublic sampleClients sampleRegistry freeSlot concat encodeSlot fitLink fitSlot wordText firstOf unlessRefused isBadQuery queryClient isBadClient isBadRedirect isSoundState isBadState challengeGiven isBadChallenge isInvalidRequest isOtherType pageReasons redirectReasons readAuthorization separator stateText location errorParameter locationText refusedPlan planFor slotsBy serveAuthorization
 pages =
     -- 5: over 4,096 bytes
     row (pageOn (longQuery 4097) 5) refl
@@ -143,7 +145,7 @@ pages =
 
 -- what a code computes by is unfolded too, so that a definition that grants one computes to another answer
 pub errors : List Row
-unfolding every same indexOf splitOn grow count any indexWhere replaceFirst bigEndianBytes hexText hexDigit hexValue decodeAfter firstByte extra isEscape plain wellFormed sound encode encodeByte isWellFormedForm pieceName pieceValue gives add valueIn formValue isMissing isRepeated onlyValue isOnce names bitFrom bitOf union readScope soundText soundId soundRedirect soundSecret soundField soundCommon soundPublic soundConfidential soundRecord recordSize recordsBehind soundRecords distinct fitRegistry recordOf registryOf sampleConfidential samplePublic sampleClients sampleRegistry freeSlot concat encodeSlot fitSlot wordText firstOf askedBy scopeAsked fits scopeGiven unlessRefused isBadQuery queryClient isBadClient isBadRedirect isSoundState isBadState isInvalidRequest isOtherType isInvalidScope codeAsked pageReasons redirectReasons readAuthorization separator stateText location errorParameter codeParameter locationText refusedPlan codePlan planFor slotsBy serveAuthorization
+unfolding every same indexOf splitOn grow count any indexWhere replaceFirst bigEndianBytes hexText hexDigit hexValue readDigest isDigestText isBase64 base64Bytes groupBytes soundGroup sextet none decodeAfter firstByte extra isEscape plain wellFormed sound encode encodeByte isWellFormedForm pieceName pieceValue gives add valueIn formValue isMissing isRepeated onlyValue isOnce names bitFrom bitOf union readScope soundText soundId soundRedirect soundSecret soundField soundCommon soundPublic soundConfidential soundRecord recordSize recordsBehind soundRecords distinct fitRegistry recordOf registryOf sampleConfidential samplePublic sampleClients sampleRegistry freeSlot concat encodeSlot fitLink fitSlot wordText firstOf askedBy scopeAsked fits scopeGiven unlessRefused isBadQuery queryClient isBadClient isBadRedirect isSoundState isBadState challengeGiven isBadChallenge isInvalidRequest isOtherType isInvalidScope codeAsked pageReasons redirectReasons readAuthorization separator stateText location errorParameter codeParameter locationText refusedPlan codePlan planFor slotsBy serveAuthorization
 errors =
     -- `invalid_request`: response_type missing, empty, repeated
     row (invalidRequest "client_id=s6BhdRkqt3" "") refl
@@ -178,7 +180,7 @@ errors =
     ∷ row (invalidScope "response_type=code&client_id=s6BhdRkqt3&scope=power+solar" "") refl
     ∷ row (invalidScope "response_type=code&client_id=s6BhdRkqt3&scope=tariff" "") refl
     -- for client 1, whose set is 1 and whose address has a `?`
-    ∷ row (decides (bytes "response_type=code&client_id=barnapp&scope=power+peak&state=x") 1 (0 ∷ 4 ∷ [])
+    ∷ row (decides (bytes "response_type=code&client_id=barnapp&scope=power+peak&state=x" ++ challenging) 1 (0 ∷ 4 ∷ [])
     (bytes "https://barn.example/r?x=1&error=invalid_scope&state=x") []) refl
     -- both `invalid_scope` and `access_denied`, and the second alone
     ∷ row (errorOn (bytes "response_type=code&client_id=s6BhdRkqt3&scope=cows") 0 4 "invalid_scope" "") refl
@@ -192,7 +194,7 @@ errors =
     ∷ row (farmless "response_type=code&client_id=s6BhdRkqt3" 1 7 "access_denied" "") refl
     ∷ row (farmless "response_type=code&client_id=s6BhdRkqt3&state=xyz" 0 7 "access_denied" "&state=xyz") refl
     ∷ row (farmless "response_type=code&client_id=s6BhdRkqt3&state=xyz" 2 7 "access_denied" "&state=xyz") refl
-    ∷ row (decidesFor 0 (bytes "response_type=code&client_id=barnapp&state=x") 1 (0 ∷ 7 ∷ [])
+    ∷ row (decidesFor 0 (bytes "response_type=code&client_id=barnapp&state=x" ++ challenging) 1 (0 ∷ 7 ∷ [])
     (bytes "https://barn.example/r?x=1&error=access_denied&state=x") []) refl
     -- in the place of his denial: each reason before it and farm 0
     ∷ row (farmless "response_type=code&client_id=s6BhdRkqt3&scope=cows&state=xyz" 1 4 "invalid_scope" "&state=xyz") refl
@@ -204,7 +206,7 @@ errors =
 -- ---- codes
 
 pub codes : List Row
-unfolding every same indexOf splitOn grow count any indexWhere replaceFirst bigEndianBytes hexText hexDigit hexValue decodeAfter firstByte extra isEscape plain wellFormed sound encode encodeByte isWellFormedForm pieceName pieceValue gives add valueIn formValue isMissing isRepeated onlyValue isOnce names bitFrom bitOf union readScope soundText soundId soundRedirect soundSecret soundField soundCommon soundPublic soundConfidential soundRecord recordSize recordsBehind soundRecords distinct fitRegistry recordOf registryOf sampleConfidential samplePublic sampleClients sampleRegistry freeSlot concat encodeSlot fitSlot firstOf askedBy scopeAsked fits scopeGiven unlessRefused isBadQuery queryClient isBadClient isBadRedirect isSoundState isBadState isInvalidRequest isOtherType isInvalidScope codeAsked pageReasons redirectReasons readAuthorization separator stateText location codeParameter locationText codePlan planFor slotsBy serveAuthorization
+unfolding every same indexOf splitOn grow count any indexWhere replaceFirst bigEndianBytes hexText hexDigit hexValue readDigest isDigestText isBase64 base64Bytes groupBytes soundGroup sextet none decodeAfter firstByte extra isEscape plain wellFormed sound encode encodeByte isWellFormedForm pieceName pieceValue gives add valueIn formValue isMissing isRepeated onlyValue isOnce names bitFrom bitOf union readScope soundText soundId soundRedirect soundSecret soundField soundCommon soundPublic soundConfidential soundRecord recordSize recordsBehind soundRecords distinct fitRegistry recordOf registryOf sampleConfidential samplePublic sampleClients sampleRegistry freeSlot concat encodeSlot fitLink fitSlot firstOf askedBy scopeAsked fits scopeGiven unlessRefused isBadQuery queryClient isBadClient isBadRedirect isSoundState isBadState challengeGiven isBadChallenge isInvalidRequest isOtherType isInvalidScope codeAsked pageReasons redirectReasons readAuthorization separator stateText location codeParameter locationText codePlan planFor slotsBy serveAuthorization
 codes =
     -- a query of 4,096 bytes is read
     row (barnCode (longQuery 4096) "") refl
@@ -235,6 +237,6 @@ codes =
     ∷ row (code "response_type=code&client_id=s6BhdRkqt3&state=+" 1 11 "&state=+") refl
     ∷ row (code "response_type=code&client_id=s6BhdRkqt3&state=~" 1 11 "&state=%7E") refl
     -- behind an address with a `?` comes `&`
-    ∷ row (barnCode (bytes "response_type=code&client_id=barnapp") "") refl
-    ∷ row (barnCode (bytes "response_type=code&client_id=barnapp&scope=power&state=x") "&state=x") refl
+    ∷ row (barnCode (bytes "response_type=code&client_id=barnapp" ++ challenging) "") refl
+    ∷ row (barnCode (bytes "response_type=code&client_id=barnapp&scope=power&state=x" ++ challenging) "&state=x") refl
     ∷ []

@@ -10,6 +10,7 @@ use Rattle.octets.specs.Lists.{every, same, indexOf, splitOn, grow}
 use Rattle.octets.specs.Search.{count, any, indexWhere, replaceFirst}
 use Rattle.octets.specs.BigEndian.{bigEndianBytes}
 use Rattle.encoding.specs.Hex.{hexText, hexDigit, hexValue}
+use Rattle.encoding.specs.Base64.{readDigest, isDigestText, isBase64, base64Bytes, groupBytes, soundGroup, sextet, none}
 use Rattle.form_coding.specs.Coding.{decodeAfter, firstByte, extra, isEscape, plain, wellFormed, sound, encode, encodeByte}
 use Rattle.form.specs.Content.{isWellFormedForm, pieceName, pieceValue, gives, add, valueIn, formValue, isMissing, isRepeated, onlyValue, isOnce}
 use Rattle.scope.specs.Set.{names}
@@ -17,15 +18,15 @@ use Rattle.scope.specs.Value.{bitFrom, bitOf, union, readScope}
 use Rattle.client_registry.specs.Registry.{soundText, soundId, soundRedirect, soundSecret, soundField, soundCommon, soundPublic, soundConfidential, soundRecord, recordSize, recordsBehind, soundRecords, distinct, fitRegistry, Client}
 use Rattle.client_registry.specs.Sample.{recordOf, registryOf, sampleConfidential, samplePublic, sampleClients, sampleRegistry}
 use Rattle.token_store.specs.Store.{freeSlot, concat, encodeSlot}
-use Rattle.token_store.specs.Fit.{fitSlot}
+use Rattle.token_store.specs.Fit.{fitLink, fitSlot}
 use Rattle.token_store.specs.declared.Slot.{Slot}
 use Rattle.protocol.specs.Answers.{wordText}
 use Rattle.protocol.specs.Refusals.{firstOf}
 use Rattle.protocol.specs.Requests.{askedBy, scopeAsked, fits, scopeGiven, unlessRefused}
-use Rattle.protocol.specs.Authorization.{isBadQuery, queryClient, isBadClient, isBadRedirect, isSoundState, isBadState, isInvalidRequest, isOtherType, isInvalidScope, codeAsked, pageReasons, redirectReasons, readAuthorization, separator, stateText, location, codeParameter, errorParameter, locationText}
+use Rattle.protocol.specs.Authorization.{isBadQuery, queryClient, isBadClient, isBadRedirect, isSoundState, isBadState, challengeGiven, isBadChallenge, isInvalidRequest, isOtherType, isInvalidScope, codeAsked, pageReasons, redirectReasons, readAuthorization, separator, stateText, location, codeParameter, errorParameter, locationText}
 use Rattle.protocol.specs.Granting.{refusedPlan, codePlan, planFor, slotsBy}
 use Rattle.protocol.specs.Outcomes.{serveAuthorization}
-use Rattle.protocol.proofs.Cases.{authorization, ShortStore, holding, slot, from, spent, countUp, Case, Row, row}
+use Rattle.protocol.proofs.Cases.{authorization, ShortStore, holding, slot, linked, from, spent, challenge, challenging, countUp, Case, Row, row}
 
 -- ---- slots
 
@@ -107,10 +108,10 @@ pageAt asked number = record {
   after = holding 1700 (other ∷ until 1 ∷ []);
 }
 
--- a code for a farm at a fresh store: what the location starts with, and the code's slot
+-- a code for a farm at a fresh store, with a challenge: what the location starts with, and the code's slot but for its link
 abbrev holds : List ℕ → String → ℕ → List ℕ → Slot → Case
 holds registry asked farm start s = record {
-  call = authorization (bytes asked) 1 farm;
+  call = authorization (bytes asked ++ challenging) 1 farm;
   registry = registry;
   store = holding 0 [];
   clock = 1000;
@@ -118,7 +119,7 @@ holds registry asked farm start s = record {
   room = 1024;
   numbers = 0 ∷ 0 ∷ [];
   text = start ++ bytes "code=000102030405060708090a0b0c0d0e0f10111213";
-  after = holding 1000 (s ∷ []);
+  after = holding 1000 (linked challenge s ∷ []);
 }
 
 -- three public clients: an address of 200 bytes, one that ends in `?`, one with `&`
@@ -141,7 +142,7 @@ written (suc n) = bytes "%25" ++ written n
 -- a code of client 1 among them, which has every name, by the scope asked for
 abbrev named : String → ℕ → Case
 named asked scope = record {
-  call = authorization (bytes "response_type=code&client_id=b&scope=" ++ bytes asked) 1 7;
+  call = authorization (bytes "response_type=code&client_id=b&scope=" ++ bytes asked ++ challenging) 1 7;
   registry = addresses;
   store = holding 0 [];
   clock = 1000;
@@ -149,13 +150,13 @@ named asked scope = record {
   room = 1024;
   numbers = 0 ∷ 0 ∷ [];
   text = bytes "https://b.example/?&code=000102030405060708090a0b0c0d0e0f10111213";
-  after = holding 1000 (slot 1 (countUp 20 0) 1 7 scope 1600 ∷ []);
+  after = holding 1000 (linked challenge (slot 6 (countUp 20 0) 1 7 scope 1600) ∷ []);
 }
 
 -- ---- the table
 
 pub roomAndClashes : List Row
-unfolding every same indexOf splitOn grow count any indexWhere replaceFirst bigEndianBytes hexText hexDigit hexValue decodeAfter firstByte extra isEscape plain wellFormed sound encode encodeByte isWellFormedForm pieceName pieceValue gives add valueIn formValue isMissing isRepeated onlyValue isOnce soundText soundId soundRedirect soundSecret soundField soundCommon soundPublic soundConfidential soundRecord recordSize recordsBehind soundRecords distinct fitRegistry recordOf registryOf sampleConfidential samplePublic sampleClients sampleRegistry freeSlot concat encodeSlot fitSlot wordText firstOf scopeAsked fits scopeGiven unlessRefused isBadQuery queryClient isBadClient isBadRedirect isSoundState isBadState isInvalidRequest isOtherType isInvalidScope codeAsked pageReasons redirectReasons readAuthorization separator stateText location codeParameter errorParameter locationText refusedPlan codePlan planFor slotsBy serveAuthorization
+unfolding every same indexOf splitOn grow count any indexWhere replaceFirst bigEndianBytes hexText hexDigit hexValue decodeAfter firstByte extra isEscape plain wellFormed sound encode encodeByte isWellFormedForm pieceName pieceValue gives add valueIn formValue isMissing isRepeated onlyValue isOnce soundText soundId soundRedirect soundSecret soundField soundCommon soundPublic soundConfidential soundRecord recordSize recordsBehind soundRecords distinct fitRegistry recordOf registryOf sampleConfidential samplePublic sampleClients sampleRegistry freeSlot concat encodeSlot fitLink fitSlot wordText firstOf scopeAsked fits scopeGiven unlessRefused isBadQuery queryClient isBadClient isBadRedirect isSoundState isBadState challengeGiven isBadChallenge isInvalidRequest isOtherType isInvalidScope codeAsked pageReasons redirectReasons readAuthorization separator stateText location codeParameter errorParameter locationText refusedPlan codePlan planFor slotsBy serveAuthorization
 roomAndClashes =
     -- no slot is free or has run out; a denied request is not told so
     row (full (crowded 0 [])) refl
@@ -197,7 +198,7 @@ roomAndClashes =
     -- an origin is no handle of a slot: not of a token that is live, nor of one that has run out
     ∷ row (issued 1000 (holding 0 (from (countUp 20 0) other ∷ [])) (holding 1000 (from (countUp 20 0) other ∷ codeAt 1000 ∷ []))) refl
     ∷ row (issued 1000 (crowded 0 (other ∷ from (countUp 20 0) (until 999) ∷ [])) (crowded 1000 (other ∷ codeAt 1000 ∷ []))) refl
-    -- the zeros of a free slot are no handle, nor are those in the place of a code's origin
+    -- the zeros of a free slot are no handle, nor are those of a code's link
     ∷ row (answered 1000 1 (replicate 20 0) (holding 0 []) 0 "code=0000000000000000000000000000000000000000"
     (holding 1000 (slot 1 (replicate 20 0) 0 7 11 1600 ∷ []))) refl
     ∷ row (answered 1000 1 (replicate 20 0) (holding 0 (barnCode 1600 ∷ spent (barnCode 1600) ∷ [])) 0
@@ -206,7 +207,7 @@ roomAndClashes =
     ∷ []
 
 pub times : List Row
-unfolding every same indexOf splitOn grow count any indexWhere replaceFirst bigEndianBytes hexText hexDigit hexValue decodeAfter firstByte extra isEscape plain wellFormed sound encode encodeByte isWellFormedForm pieceName pieceValue gives add valueIn formValue isMissing isRepeated onlyValue isOnce soundText soundId soundRedirect soundSecret soundField soundCommon soundPublic soundConfidential soundRecord recordSize recordsBehind soundRecords distinct fitRegistry recordOf registryOf sampleConfidential samplePublic sampleClients sampleRegistry freeSlot concat encodeSlot fitSlot wordText firstOf scopeAsked fits scopeGiven unlessRefused isBadQuery queryClient isBadClient isBadRedirect isSoundState isBadState isInvalidRequest isOtherType isInvalidScope codeAsked pageReasons redirectReasons readAuthorization separator stateText location codeParameter errorParameter locationText refusedPlan codePlan planFor slotsBy serveAuthorization
+unfolding every same indexOf splitOn grow count any indexWhere replaceFirst bigEndianBytes hexText hexDigit hexValue decodeAfter firstByte extra isEscape plain wellFormed sound encode encodeByte isWellFormedForm pieceName pieceValue gives add valueIn formValue isMissing isRepeated onlyValue isOnce soundText soundId soundRedirect soundSecret soundField soundCommon soundPublic soundConfidential soundRecord recordSize recordsBehind soundRecords distinct fitRegistry recordOf registryOf sampleConfidential samplePublic sampleClients sampleRegistry freeSlot concat encodeSlot fitLink fitSlot wordText firstOf scopeAsked fits scopeGiven unlessRefused isBadQuery queryClient isBadClient isBadRedirect isSoundState isBadState challengeGiven isBadChallenge isInvalidRequest isOtherType isInvalidScope codeAsked pageReasons redirectReasons readAuthorization separator stateText location codeParameter errorParameter locationText refusedPlan codePlan planFor slotsBy serveAuthorization
 times =
     -- T is the larger of clock and mark: it is stored, the expiry is T plus 600, and slots run out by it
     row (issued 1000 (holding 1000 []) (holding 1000 (codeAt 1000 ∷ []))) refl
@@ -231,18 +232,18 @@ times =
 
 -- what a code holds and where it is sent, by the client, with the owner's decision 1
 pub held : List Row
-unfolding public addresses every same indexOf splitOn grow count any indexWhere replaceFirst bigEndianBytes hexText hexDigit hexValue decodeAfter firstByte extra isEscape plain wellFormed sound encode encodeByte isWellFormedForm pieceName pieceValue gives add valueIn formValue isMissing isRepeated onlyValue isOnce names bitFrom bitOf union readScope soundText soundId soundRedirect soundSecret soundField soundCommon soundPublic soundConfidential soundRecord recordSize recordsBehind soundRecords distinct fitRegistry recordOf registryOf sampleConfidential samplePublic sampleClients sampleRegistry freeSlot concat encodeSlot fitSlot firstOf askedBy scopeAsked fits scopeGiven unlessRefused isBadQuery queryClient isBadClient isBadRedirect isSoundState isBadState isInvalidRequest isOtherType isInvalidScope codeAsked pageReasons redirectReasons readAuthorization separator stateText location codeParameter locationText codePlan planFor slotsBy serveAuthorization
+unfolding public addresses every same indexOf splitOn grow count any indexWhere replaceFirst bigEndianBytes hexText hexDigit hexValue readDigest isDigestText isBase64 base64Bytes groupBytes soundGroup sextet none decodeAfter firstByte extra isEscape plain wellFormed sound encode encodeByte isWellFormedForm pieceName pieceValue gives add valueIn formValue isMissing isRepeated onlyValue isOnce names bitFrom bitOf union readScope soundText soundId soundRedirect soundSecret soundField soundCommon soundPublic soundConfidential soundRecord recordSize recordsBehind soundRecords distinct fitRegistry recordOf registryOf sampleConfidential samplePublic sampleClients sampleRegistry freeSlot concat encodeSlot fitLink fitSlot firstOf askedBy scopeAsked fits scopeGiven unlessRefused isBadQuery queryClient isBadClient isBadRedirect isSoundState isBadState challengeGiven isBadChallenge isInvalidRequest isOtherType isInvalidScope codeAsked pageReasons redirectReasons readAuthorization separator stateText location codeParameter locationText codePlan planFor slotsBy serveAuthorization
 held =
     -- the farm that the owner allowed, of 32 bits and any but 0; the client's number, and its set
     row (holds sampleRegistry "response_type=code&client_id=s6BhdRkqt3&scope=bill" 1
-    (bytes "https://client.example.com/cb?") (slot 1 (countUp 20 0) 0 1 8 1600)) refl
+    (bytes "https://client.example.com/cb?") (slot 6 (countUp 20 0) 0 1 8 1600)) refl
     ∷ row (holds sampleRegistry "response_type=code&client_id=barnapp&redirect_uri=https://barn.example/r?x=1" (2 ^ 32 - 1)
-    (bytes "https://barn.example/r?x=1&") (slot 2 (countUp 20 0) 1 (2 ^ 32 - 1) 1 1600)) refl
+    (bytes "https://barn.example/r?x=1&") (slot 7 (countUp 20 0) 1 (2 ^ 32 - 1) 1 1600)) refl
     ∷ row (holds sampleRegistry "response_type=code&client_id=barnapp" (2 ^ 24) (bytes "https://barn.example/r?x=1&")
-    (slot 1 (countUp 20 0) 1 (2 ^ 24) 1 1600)) refl
+    (slot 6 (countUp 20 0) 1 (2 ^ 24) 1 1600)) refl
     -- an address that ends in `?`, and one with `&` alone
-    ∷ row (holds addresses "response_type=code&client_id=b" 7 (bytes "https://b.example/?&") (slot 1 (countUp 20 0) 1 7 255 1600)) refl
-    ∷ row (holds addresses "response_type=code&client_id=c" 7 (bytes "https://c.example/a&b?") (slot 1 (countUp 20 0) 2 7 224 1600)) refl
+    ∷ row (holds addresses "response_type=code&client_id=b" 7 (bytes "https://b.example/?&") (slot 6 (countUp 20 0) 1 7 255 1600)) refl
+    ∷ row (holds addresses "response_type=code&client_id=c" 7 (bytes "https://c.example/a&b?") (slot 6 (countUp 20 0) 2 7 224 1600)) refl
     -- each name of the table, for a client with all of them
     ∷ row (named "power" 1) refl
     ∷ row (named "peak" 2) refl
@@ -255,9 +256,9 @@ held =
     ∷ row (named "solar+pump+drying+milking+bill+tariff+peak+power" 255) refl
     -- an address of 200 bytes; with a state of 200 that each take three, the longest location
     ∷ row (holds addresses "response_type=code&client_id=a&scope=milking" 7 (replicate 200 97 ++ bytes "?")
-    (slot 1 (countUp 20 0) 0 7 16 1600)) refl
+    (slot 6 (countUp 20 0) 0 7 16 1600)) refl
     ∷ row (record {
-      call = authorization (bytes "response_type=code&client_id=a&state=" ++ written 200) 1 7;
+      call = authorization (bytes "response_type=code&client_id=a&state=" ++ written 200 ++ challenging) 1 7;
       registry = addresses;
       store = holding 0 [];
       clock = 1000;
@@ -265,6 +266,6 @@ held =
       room = 1024;
       numbers = 0 ∷ 0 ∷ [];
       text = replicate 200 97 ++ bytes "?code=000102030405060708090a0b0c0d0e0f10111213&state=" ++ written 200;
-      after = holding 1000 (slot 1 (countUp 20 0) 0 7 148 1600 ∷ []);
+      after = holding 1000 (linked challenge (slot 6 (countUp 20 0) 0 7 148 1600) ∷ []);
     }) refl
     ∷ []

@@ -2,7 +2,7 @@
 --
 -- A case is a call with all that it is handed, and what the paper has for it: the numbers that a C host sees, the text that is
 -- written, and the store after. `Decided` says of a case that the outcome function of its endpoint, from raw bytes, comes to just
--- that, whatever an output of the case's length holds. To compute over the 28,168 bytes of a store would be slow, so `agrees`
+-- that, whatever an output of the case's length holds. To compute over the 34,312 bytes of a store would be slow, so `agrees`
 -- computes on the store as a record, and `decided` is the law that the bytes come to the same. A table is a list of rows, each a case
 -- that agrees by computation; of every table it follows that each of its cases is decided (`all-decided`).
 --
@@ -18,14 +18,16 @@ use borrow.Author.Tests.{eqb-true, eq-eqb, leb-true, ltb-true}
 use lib.Dec.{leb, ltb, eqb}
 use lib.ListN.{length, drop, getD, replicate, length-append, length-replicate}
 use lib.Seq.{sets, sets-eq}
+use Rattle.octets.specs.Text.{bytes}
 use Rattle.octets.specs.Lists.{every, same}
+use Rattle.octets.specs.BigEndian.{bigEndianBytes}
 use Rattle.octets.specs.Search.{bit}
 use Rattle.octets.proofs.Booleans.{and-left, and-right, and-implied}
 use Rattle.octets.proofs.Lists.{every-append, same-eq}
 use Rattle.octets.proofs.Searches.{every-each}
 use Rattle.client_registry.specs.Registry.{fitRegistry, clientsOf}
-use Rattle.token_store.specs.Layout.{timeSize, slotCount, storeSize, handleSize, farmSize, expirySize, latestTime}
-use Rattle.token_store.specs.Store.{Store, SlotFits, SlotsFit, noOrigin, freeSlot, encode, decode}
+use Rattle.token_store.specs.Layout.{timeSize, slotCount, storeSize, handleSize, farmSize, expirySize, linkSize, latestTime}
+use Rattle.token_store.specs.Store.{Store, SlotFits, SlotsFit, noLink, linkTo, freeSlot, encode, decode}
 use Rattle.token_store.specs.Fit.{fitSlot, fitStore}
 use Rattle.token_store.specs.declared.Slot.{Slot}
 use Rattle.token_store.proofs.Codec.{length-encode, decode-encode}
@@ -65,7 +67,7 @@ storeOf l = record { time = l .time; slots = slotsOf l }
 abbrev pub holding : ℕ → List Slot → ShortStore
 holding time slots = record { time = time; first = slots; rest = freeSlot }
 
--- a slot by its fields, the origin being zero, as in codes: "the 20 new ones last, zero in codes"
+-- a slot by its fields, the link being zero, as in codes without a challenge
 abbrev pub slot : (kind : ℕ) (handle : List ℕ) (client farm scope expiry : ℕ) → Slot
 slot kind handle client farm scope expiry = record {
   kind = kind;
@@ -74,24 +76,35 @@ slot kind handle client farm scope expiry = record {
   farm = farm;
   scope = scope;
   expiry = expiry;
-  origin = noOrigin;
+  link = noLink;
 }
 
--- the same with an origin, which tokens have
-abbrev pub from : List ℕ → Slot → Slot
-from origin s = record {
+-- the same with a link: for a code of the kinds 6 and 7 its challenge. With an origin, which tokens have
+abbrev pub linked : List ℕ → Slot → Slot
+linked link s = record {
   kind = s .kind;
   handle = s .handle;
   client = s .client;
   farm = s .farm;
   scope = s .scope;
   expiry = s .expiry;
-  origin = origin;
+  link = link;
 }
 
--- what an exchange leaves of its code: "Keep an exchanged code as kind 5, spent, until its old expiry."
+abbrev pub from : List ℕ → Slot → Slot
+from origin s = linked (linkTo origin) s
+
+-- what an exchange leaves of its code: "Keep an exchanged code as kind 5, spent, until its old expiry."; its challenge is "zero again once
+-- spent as kind 5"
 abbrev pub spent : Slot → Slot
 spent code = slot 5 (code .handle) (code .client) (code .farm) (code .scope) (code .expiry)
+
+-- the challenge of RFC 7636, Appendix B, and what a query says to send it: "E9Melhoa2OwvFrEMTJguCHaoeK1t8URWbuGJSstw-cM"
+abbrev pub challenge : List ℕ
+challenge = bigEndianBytes 32 0x13d31e96_1a1ad8ec_2f16b10c_4c982e08_76a878ad_6df14456_6ee1894a_cb70f9c3
+
+abbrev pub challenging : List ℕ
+challenging = bytes "&code_challenge=E9Melhoa2OwvFrEMTJguCHaoeK1t8URWbuGJSstw-cM&code_challenge_method=S256"
 
 -- n numbers from k on
 abbrev pub countUp : ℕ → ℕ → List ℕ
@@ -199,7 +212,7 @@ widths s =
     ∷ ltb (s .farm) (256 ^ farmSize)
     ∷ ltb (s .scope) (256 ^ 1)
     ∷ ltb (s .expiry) (256 ^ expirySize)
-    ∷ eqb (length (s .origin)) handleSize
+    ∷ eqb (length (s .link)) linkSize
     ∷ []
 
 abbrev pub isWide : Slot → Bool
@@ -238,7 +251,7 @@ sameFields s u =
     ∷ eqb (s .farm) (u .farm)
     ∷ eqb (s .scope) (u .scope)
     ∷ eqb (s .expiry) (u .expiry)
-    ∷ same (s .origin) (u .origin)
+    ∷ same (s .link) (u .link)
     ∷ []
 
 abbrev pub sameSlot : Slot → Slot → Bool
@@ -307,7 +320,7 @@ wide-fits s e =
       farm = ltb-true (s .farm) _ (w .1 .1 .1 .0);
       scope = ltb-true (s .scope) _ (w .1 .1 .1 .1 .0);
       expiry = ltb-true (s .expiry) _ (w .1 .1 .1 .1 .1 .0);
-      origin = eqb-true (length (s .origin)) _ (w .1 .1 .1 .1 .1 .1 .0);
+      link = eqb-true (length (s .link)) _ (w .1 .1 .1 .1 .1 .1 .0);
     }
 
 free-wide : isWide freeSlot ≡ true
@@ -362,7 +375,7 @@ slot-eq s u e =
       farm = eqb-true (s .farm) (u .farm) (w .1 .1 .1 .0) j;
       scope = eqb-true (s .scope) (u .scope) (w .1 .1 .1 .1 .0) j;
       expiry = eqb-true (s .expiry) (u .expiry) (w .1 .1 .1 .1 .1 .0) j;
-      origin = same-eq (s .origin) (u .origin) (w .1 .1 .1 .1 .1 .1 .0) j;
+      link = same-eq (s .link) (u .link) (w .1 .1 .1 .1 .1 .1 .0) j;
     }
 
 slots-eq : (ss us : List Slot) → sameSlots ss us ≡ true → ss ≡ us

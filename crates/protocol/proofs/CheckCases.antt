@@ -12,7 +12,7 @@ use Rattle.encoding.specs.Hex.{hexValue, isHandleText, unhex, readHandle}
 use Rattle.client_registry.specs.Registry.{soundText, soundId, soundRedirect, soundSecret, soundField, soundCommon, soundPublic, soundConfidential, soundRecord, recordSize, recordsBehind, soundRecords, distinct, fitRegistry}
 use Rattle.client_registry.specs.Sample.{recordOf, registryOf, sampleConfidential, samplePublic, sampleClients, sampleRegistry}
 use Rattle.token_store.specs.Store.{freeSlot, concat, encodeSlot}
-use Rattle.token_store.specs.Fit.{fitSlot}
+use Rattle.token_store.specs.Fit.{fitLink, fitSlot}
 use Rattle.token_store.specs.declared.Slot.{Slot}
 use Rattle.protocol.specs.Refusals.{firstOf}
 use Rattle.protocol.specs.Granting.{checkSlots}
@@ -54,7 +54,7 @@ notLive presented clock slots = checks presented clock (holding 0 slots) (0 ∷ 
 -- ---- the table
 
 pub checked : List Row
-unfolding every same firstOr bigEndianBytes hexValue isHandleText unhex readHandle soundText soundId soundRedirect soundSecret soundField soundCommon soundPublic soundConfidential soundRecord recordSize recordsBehind soundRecords distinct fitRegistry recordOf registryOf sampleConfidential samplePublic sampleClients sampleRegistry freeSlot concat encodeSlot fitSlot firstOf checkSlots serveCheck
+unfolding every same firstOr bigEndianBytes hexValue isHandleText unhex readHandle soundText soundId soundRedirect soundSecret soundField soundCommon soundPublic soundConfidential soundRecord recordSize recordsBehind soundRecords distinct fitRegistry recordOf registryOf sampleConfidential samplePublic sampleClients sampleRegistry freeSlot concat encodeSlot fitLink fitSlot firstOf checkSlots serveCheck
 checked =
     -- live while T is below the expiry, with the seconds from T to it
     row (live 4999 1 (access 5000 ∷ [])) refl

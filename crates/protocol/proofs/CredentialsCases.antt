@@ -24,17 +24,17 @@ use Rattle.scope.specs.Set.{names}
 use Rattle.scope.specs.Value.{bitFrom, bitOf, union, readScope, chosen, spaced, scopeText}
 use Rattle.client_registry.specs.Sample.{sampleConfidential, samplePublic}
 use Rattle.token_store.specs.Store.{freeSlot, concat, encodeSlot}
-use Rattle.token_store.specs.Fit.{fitSlot}
+use Rattle.token_store.specs.Fit.{fitLink, fitSlot}
 use Rattle.token_store.specs.declared.Slot.{Slot}
 use Rattle.protocol.specs.Answers.{wordText}
 use Rattle.protocol.specs.Refusals.{firstOf}
 use Rattle.protocol.specs.Requests.{askedBy, scopeAsked, fits, scopeGiven, unlessRefused}
 use Rattle.protocol.specs.Authorization.{isInvalidScope}
 use Rattle.protocol.specs.ClientForms.{isInvalidForm, lowerCase, sameAnyCase, credentials, isBadHeader, headerId, headerSecret, presentedId, presentedSecret, isUnclearId, isImpostor, callClient, isInvalidClient, formReasons}
-use Rattle.protocol.specs.Token.{readExchange, readRefresh, readCredentials, readGrant, readToken, errorReply, refusalReply, tokenReply, refreshMember, challenges}
+use Rattle.protocol.specs.Token.{challengeAnswered, readExchange, readRefresh, readCredentials, readGrant, readToken, errorReply, refusalReply, tokenReply, refreshMember, challenges}
 use Rattle.protocol.specs.Granting.{refusedPlan, exchangePlan, refreshPlan, credentialsPlan, planFor, slotsBy, checkSlots}
 use Rattle.protocol.specs.Outcomes.{replyText, serveToken, serveCheck}
-use Rattle.protocol.proofs.Cases.{check, ShortStore, holding, slot, from, spent, countUp, Case, Row}
+use Rattle.protocol.proofs.Cases.{check, ShortStore, holding, slot, linked, from, spent, countUp, Case, Row}
 use Rattle.protocol.proofs.TokenRows.{agreesOn, rowOn}
 use Rattle.protocol.proofs.TokenCases.{clients, registry, registry-fit, registry-clients, handle, code, unboundCode, refreshToken, accessToken, until, twin, refreshTwin, access, refresh, renewed, some, crowded, at, held, heldBeside, lastUsed, Said, said, invalidRequest, invalidClient, challenged, invalidGrant, invalidScope, unsupported, noRoom, clash, bothTokens, accessAloneOf, accessAlone, twoHandles, nextHandles, Visit, row, call, refused, refuses, basic, exchange, barn, refreshing, newAccess, newRefresh}
 
@@ -113,12 +113,12 @@ checked store clock numbers agreed = rowOn (checkAt store clock numbers) registr
 
 -- the same slot, for farm 0
 abbrev farmless : Slot → Slot
-farmless s = from (s .origin) (slot (s .kind) (s .handle) (s .client) 0 (s .scope) (s .expiry))
+farmless s = linked (s .link) (slot (s .kind) (s .handle) (s .client) 0 (s .scope) (s .expiry))
 
 -- ---- the table
 
 pub credentialsCases : List Row
-unfolding every same indexOf splitOn grow hexText hexDigit hexValue isHandleText unhex readHandle isBase64 base64Bytes groupBytes soundGroup sextet none decodeAfter firstByte extra isEscape plain wellFormed sound isWellFormedForm pieceName pieceValue gives add valueIn formValue names bitFrom bitOf union readScope chosen spaced scopeText sampleConfidential samplePublic count any indexWhere firstOr replaceFirst freeSlot bigEndianBytes concat encodeSlot fitSlot wordText isMissing isRepeated onlyValue isOnce askedBy scopeAsked fits scopeGiven isInvalidScope isInvalidForm lowerCase sameAnyCase credentials isBadHeader headerId headerSecret presentedId presentedSecret isUnclearId isImpostor callClient isInvalidClient formReasons readExchange readRefresh readCredentials readGrant readToken errorReply refusalReply tokenReply refreshMember challenges firstOf unlessRefused refusedPlan exchangePlan refreshPlan credentialsPlan planFor slotsBy checkSlots replyText serveToken serveCheck
+unfolding every same indexOf splitOn grow hexText hexDigit hexValue isHandleText unhex readHandle isBase64 base64Bytes groupBytes soundGroup sextet none decodeAfter firstByte extra isEscape plain wellFormed sound isWellFormedForm pieceName pieceValue gives add valueIn formValue names bitFrom bitOf union readScope chosen spaced scopeText sampleConfidential samplePublic count any indexWhere firstOr replaceFirst freeSlot bigEndianBytes concat encodeSlot fitLink fitSlot wordText isMissing isRepeated onlyValue isOnce askedBy scopeAsked fits scopeGiven isInvalidScope isInvalidForm lowerCase sameAnyCase credentials isBadHeader headerId headerSecret presentedId presentedSecret isUnclearId isImpostor callClient isInvalidClient formReasons challengeAnswered readExchange readRefresh readCredentials readGrant readToken errorReply refusalReply tokenReply refreshMember challenges firstOf unlessRefused refusedPlan exchangePlan refreshPlan credentialsPlan planFor slotsBy checkSlots replyText serveToken serveCheck
 credentialsCases =
     -- ---- success, status 200: "confidential clients only .. no refresh token, one slot". The RFC's example, at a fresh store
     row

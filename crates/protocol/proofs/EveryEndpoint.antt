@@ -11,7 +11,7 @@ use Rattle.octets.specs.BigEndian.{bigEndianFrom, bigEndianBytes}
 use Rattle.client_registry.specs.Registry.{soundText, soundId, soundRedirect, soundSecret, soundField, soundCommon, soundPublic, soundConfidential, soundRecord, recordSize, recordsBehind, soundRecords, distinct, fitRegistry}
 use Rattle.client_registry.specs.Sample.{recordOf, registryOf, sampleConfidential, samplePublic, sampleClients, sampleRegistry}
 use Rattle.token_store.specs.Store.{cut, concat, tabulate, encodeSlot, decodeSlot, decode, encode}
-use Rattle.token_store.specs.Fit.{fitSlot, fitStore}
+use Rattle.token_store.specs.Fit.{fitLink, fitSlot, fitStore}
 use Rattle.protocol.specs.declared.Refusal.{Refusal}
 use Rattle.protocol.specs.declared.Refusal.the-variants.{Unfit}
 use Rattle.protocol.specs.declared.Input.the-variants.{Store}
@@ -38,7 +38,7 @@ reasons-in-order : map applying
     ∷ unfitReasons true sampleRegistry [] 0
     ∷ [])
     ≡ (1 ∷ 2 ∷ 3 ∷ 4 ∷ []) ∷ (0 ∷ 2 ∷ 3 ∷ 4 ∷ []) ∷ (0 ∷ 0 ∷ 3 ∷ 4 ∷ []) ∷ (0 ∷ 0 ∷ 3 ∷ 0 ∷ []) ∷ (1 ∷ 0 ∷ 3 ∷ 0 ∷ []) ∷ []
-unfolding number applying every same bigEndianFrom soundText soundId soundRedirect soundSecret soundField soundCommon soundPublic soundConfidential soundRecord recordSize recordsBehind soundRecords distinct fitRegistry recordOf registryOf sampleConfidential samplePublic sampleClients sampleRegistry cut tabulate decodeSlot decode fitSlot fitStore concat encodeSlot bigEndianBytes
+unfolding number applying every same bigEndianFrom soundText soundId soundRedirect soundSecret soundField soundCommon soundPublic soundConfidential soundRecord recordSize recordsBehind soundRecords distinct fitRegistry recordOf registryOf sampleConfidential samplePublic sampleClients sampleRegistry cut tabulate decodeSlot decode fitLink fitSlot fitStore concat encodeSlot bigEndianBytes
 reasons-in-order = refl
 
 -- ---- what is stored and written

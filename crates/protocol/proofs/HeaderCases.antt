@@ -18,7 +18,7 @@ use Rattle.octets.specs.Lists.{every, same, indexOf, splitOn, grow}
 use Rattle.octets.specs.BigEndian.{bigEndianBytes}
 use Rattle.octets.specs.Search.{count, any, indexWhere, firstOr, replaceFirst}
 use Rattle.encoding.specs.Hex.{hexText, hexDigit, hexValue, isHandleText, unhex, readHandle}
-use Rattle.encoding.specs.Base64.{isBase64, base64Bytes, groupBytes, soundGroup, sextet, none, base64Text, digit64}
+use Rattle.encoding.specs.Base64.{standard, isBase64, base64Bytes, groupBytes, soundGroup, sextet, none, base64Text, digit64}
 use Rattle.form_coding.specs.Coding.{decodeAfter, firstByte, extra, isEscape, plain, wellFormed, sound, encode, encodeByte}
 use Rattle.form.specs.Content.{isWellFormedForm, pieceName, pieceValue, gives, add, valueIn, formValue, isMissing, isRepeated, onlyValue, isOnce}
 use Rattle.scope.specs.Set.{names}
@@ -26,13 +26,13 @@ use Rattle.scope.specs.Value.{bitFrom, bitOf, union, readScope, chosen, spaced,
 use Rattle.client_registry.specs.Registry.{Client, soundText, soundId, soundRedirect, soundSecret, soundField, soundCommon, soundPublic, soundConfidential, soundRecord, recordSize, recordsBehind, soundRecords, distinct, fitRegistry, clientsOf}
 use Rattle.client_registry.specs.Sample.{recordOf, registryOf, sampleConfidential, samplePublic}
 use Rattle.token_store.specs.Store.{freeSlot, concat, encodeSlot}
-use Rattle.token_store.specs.Fit.{fitSlot}
+use Rattle.token_store.specs.Fit.{fitLink, fitSlot}
 use Rattle.protocol.specs.Answers.{wordText}
 use Rattle.protocol.specs.Refusals.{firstOf}
 use Rattle.protocol.specs.Requests.{askedBy, scopeAsked, fits, scopeGiven, unlessRefused}
 use Rattle.protocol.specs.Authorization.{isInvalidScope}
 use Rattle.protocol.specs.ClientForms.{isInvalidForm, lowerCase, sameAnyCase, credentials, isBadHeader, headerId, headerSecret, headerOf, presentedId, presentedSecret, isUnclearId, isImpostor, callClient, isInvalidClient, formReasons}
-use Rattle.protocol.specs.Token.{readExchange, readCredentials, readGrant, readToken, errorReply, refusalReply, tokenReply, refreshMember, challenges}
+use Rattle.protocol.specs.Token.{challengeAnswered, readExchange, readCredentials, readGrant, readToken, errorReply, refusalReply, tokenReply, refreshMember, challenges}
 use Rattle.protocol.specs.Granting.{refusedPlan, exchangePlan, credentialsPlan, planFor, slotsBy}
 use Rattle.protocol.specs.Outcomes.{replyText, serveToken}
 use Rattle.protocol.proofs.Cases.{countUp, Row}
@@ -101,7 +101,7 @@ row v agreed = rowOn (caseOn registry v) registry-fit clients registry-clients a
 
 -- the header whose base64 stands for these bytes, and for a text: an id, a colon and a secret, each coded
 abbrev headed : List ℕ → List ℕ
-headed pair = bytes "Basic " ++ base64Text pair
+headed pair = bytes "Basic " ++ base64Text standard pair
 
 abbrev heading : String → List ℕ
 heading pair = headed (bytes pair)
@@ -169,7 +169,7 @@ shutsOutBeside pair id = refuses (heading pair) (ask ++ bytes "&client_id=" ++ b
 -- ---- the table
 
 pub headerCases : List Row
-unfolding every same indexOf splitOn grow hexText hexDigit hexValue isHandleText unhex readHandle isBase64 base64Bytes groupBytes soundGroup sextet none base64Text digit64 decodeAfter firstByte extra isEscape plain wellFormed sound isWellFormedForm pieceName pieceValue gives add valueIn formValue names bitFrom bitOf union readScope chosen spaced scopeText sampleConfidential samplePublic count any indexWhere firstOr replaceFirst freeSlot bigEndianBytes concat encodeSlot fitSlot wordText isMissing isRepeated onlyValue isOnce askedBy scopeAsked fits scopeGiven isInvalidScope isInvalidForm lowerCase sameAnyCase credentials isBadHeader headerId headerSecret presentedId presentedSecret isUnclearId isImpostor callClient isInvalidClient formReasons readExchange readCredentials readGrant readToken errorReply refusalReply tokenReply refreshMember challenges firstOf unlessRefused refusedPlan exchangePlan credentialsPlan planFor slotsBy replyText serveToken
+unfolding every same indexOf splitOn grow hexText hexDigit hexValue isHandleText unhex readHandle isBase64 base64Bytes groupBytes soundGroup sextet none base64Text digit64 decodeAfter firstByte extra isEscape plain wellFormed sound isWellFormedForm pieceName pieceValue gives add valueIn formValue names bitFrom bitOf union readScope chosen spaced scopeText sampleConfidential samplePublic count any indexWhere firstOr replaceFirst freeSlot bigEndianBytes concat encodeSlot fitLink fitSlot wordText isMissing isRepeated onlyValue isOnce askedBy scopeAsked fits scopeGiven isInvalidScope isInvalidForm lowerCase sameAnyCase credentials isBadHeader headerId headerSecret presentedId presentedSecret isUnclearId isImpostor callClient isInvalidClient formReasons challengeAnswered readExchange readCredentials readGrant readToken errorReply refusalReply tokenReply refreshMember challenges firstOf unlessRefused refusedPlan exchangePlan credentialsPlan planFor slotsBy replyText serveToken
 headerCases =
     -- ---- "A client's secret is `a%b`, and its library sends it in the header as `a%25b`.": it is served
     row (grantsTo 2 right forItself "pump" 64) refl

@@ -10,6 +10,7 @@ use Prim.Native.Nat.{ℕ, _+_, _*_, _≤_, _<_}
 use mathlib.Core.Path.{_≡_, refl, sym, _∙_, ap}
 use mathlib.Core.Bool.{Bool, true, false, not, _&&_, _||_}
 use mathlib.Core.List.{List, _∷_, _++_}
+use mathlib.Core.Logic.{inl}
 use native.Mathlib.Omega.{arith}
 use borrow.Author.Tests.{ne-eqb, ltb-true, le-ltb, lt-ltb}
 use lib.Dec.{ltb, eqb, lit<}
@@ -20,7 +21,7 @@ use Rattle.octets.specs.Lists.{Bytes, every, indexOf}
 use Rattle.octets.specs.Search.{any}
 use Rattle.octets.proofs.Lists.{every-append, class-bytes, same-refl}
 use Rattle.octets.proofs.Pieces.{any-index}
-use Rattle.encoding.specs.Base64.{isBase64, base64Text}
+use Rattle.encoding.specs.Base64.{standard, isBase64, base64Text}
 use Rattle.encoding.proofs.Base64.{base64-valid, base64-round, base64-text-length}
 use Rattle.form_coding.specs.Coding.{encode}
 use Rattle.form_coding.proofs.RoundTrip.{round-trip, well-written, no-colon, writes-bytes, encode-length}
@@ -47,8 +48,8 @@ module _ (id secret : List ℕ) where
   header-length =
       omega (
         arith,
-        length-append (bytes "Basic ") (base64Text pair),
-        base64-text-length pair,
+        length-append (bytes "Basic ") (base64Text standard pair),
+        base64-text-length standard pair,
         length-append (encode id) (58 ∷ encode secret),
         encode-length id,
         encode-length secret,
@@ -57,7 +58,7 @@ module _ (id secret : List ℕ) where
   came : cameWith (headerOf id secret) ≡ true
   unfolding headerOf
   came =
-      let some : length (headerOf id secret) ≡ 0 → ⊥ = λ e. omega (arith, e, length-append (bytes "Basic ") (base64Text pair)) in
+      let some : length (headerOf id secret) ≡ 0 → ⊥ = λ e. omega (arith, e, length-append (bytes "Basic ") (base64Text standard pair)) in
       ap not (ne-eqb (length (headerOf id secret)) 0 some)
 
   scheme-read : sameAnyCase (take 6 (headerOf id secret)) (bytes "basic ") ≡ true
@@ -71,13 +72,13 @@ module _ (id secret : List ℕ) where
         class-bytes (λ c. ltb c 256) (λ c. ltb-true c 256) pair
         (every-append (λ c. ltb c 256) (encode id) (58 ∷ encode secret) ∙ rw (writes-bytes id id-bytes, writes-bytes secret secret-bytes))
 
-    base64-read : isBase64 (drop 6 (headerOf id secret)) ≡ true
+    base64-read : isBase64 standard (drop 6 (headerOf id secret)) ≡ true
     unfolding headerOf
-    base64-read = base64-valid pair pair-bytes
+    base64-read = base64-valid standard (inl refl) pair pair-bytes
 
     pair-back : credentials (headerOf id secret) ≡ pair
     unfolding credentials headerOf
-    pair-back = base64-round pair pair-bytes
+    pair-back = base64-round standard (inl refl) pair pair-bytes
 
     colon-at : indexOf 58 pair ≡ length (encode id)
     colon-at = index-apart 58 (encode id) (encode secret) (no-colon id id-bytes)

@@ -17,6 +17,7 @@ pub mod TokenCases
 pub mod CredentialsCases
 pub mod HeaderCases
 pub mod SpentCases
+pub mod ChallengeCases
 pub mod Starred
 pub mod Visit
 pub mod Table

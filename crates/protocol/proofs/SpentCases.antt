@@ -27,14 +27,14 @@ use Rattle.scope.specs.Set.{names}
 use Rattle.scope.specs.Value.{bitFrom, bitOf, union, readScope, chosen, spaced, scopeText}
 use Rattle.client_registry.specs.Sample.{sampleConfidential, samplePublic}
 use Rattle.token_store.specs.Store.{freeSlot, concat, encodeSlot}
-use Rattle.token_store.specs.Fit.{fitSlot}
+use Rattle.token_store.specs.Fit.{fitLink, fitSlot}
 use Rattle.token_store.specs.declared.Slot.{Slot}
 use Rattle.protocol.specs.Answers.{wordText}
 use Rattle.protocol.specs.Refusals.{firstOf}
 use Rattle.protocol.specs.Requests.{askedBy, scopeAsked, fits, scopeGiven, unlessRefused}
 use Rattle.protocol.specs.Authorization.{isInvalidScope}
 use Rattle.protocol.specs.ClientForms.{isInvalidForm, lowerCase, sameAnyCase, credentials, isBadHeader, headerId, headerSecret, presentedId, presentedSecret, isUnclearId, isImpostor, callClient, isInvalidClient, formReasons}
-use Rattle.protocol.specs.Token.{readExchange, readRefresh, readCredentials, readGrant, readToken, errorReply, refusalReply, tokenReply, refreshMember, challenges}
+use Rattle.protocol.specs.Token.{challengeAnswered, readExchange, readRefresh, readCredentials, readGrant, readToken, errorReply, refusalReply, tokenReply, refreshMember, challenges}
 use Rattle.protocol.specs.Granting.{refusedPlan, exchangePlan, refreshPlan, credentialsPlan, planFor, slotsBy, checkSlots}
 use Rattle.protocol.specs.Outcomes.{replyText, serveToken, serveCheck}
 use Rattle.protocol.proofs.Cases.{ShortStore, slot, from, spent, countUp, Row}
@@ -129,7 +129,7 @@ issuesOne body new =
 -- ---- the table
 
 pub spentCases : List Row
-unfolding every same indexOf splitOn grow hexText hexDigit hexValue isHandleText unhex readHandle isBase64 base64Bytes groupBytes soundGroup sextet none decodeAfter firstByte extra isEscape plain wellFormed sound isWellFormedForm pieceName pieceValue gives add valueIn formValue names bitFrom bitOf union readScope chosen spaced scopeText sampleConfidential samplePublic count any indexWhere firstOr replaceFirst replaceAll freeSlot bigEndianBytes concat encodeSlot fitSlot wordText isMissing isRepeated onlyValue isOnce askedBy scopeAsked fits scopeGiven isInvalidScope isInvalidForm lowerCase sameAnyCase credentials isBadHeader headerId headerSecret presentedId presentedSecret isUnclearId isImpostor callClient isInvalidClient formReasons readExchange readRefresh readCredentials readGrant readToken errorReply refusalReply tokenReply refreshMember challenges firstOf unlessRefused refusedPlan exchangePlan refreshPlan credentialsPlan planFor slotsBy checkSlots replyText serveToken serveCheck
+unfolding every same indexOf splitOn grow hexText hexDigit hexValue isHandleText unhex readHandle isBase64 base64Bytes groupBytes soundGroup sextet none decodeAfter firstByte extra isEscape plain wellFormed sound isWellFormedForm pieceName pieceValue gives add valueIn formValue names bitFrom bitOf union readScope chosen spaced scopeText sampleConfidential samplePublic count any indexWhere firstOr replaceFirst replaceAll freeSlot bigEndianBytes concat encodeSlot fitLink fitSlot wordText isMissing isRepeated onlyValue isOnce askedBy scopeAsked fits scopeGiven isInvalidScope isInvalidForm lowerCase sameAnyCase credentials isBadHeader headerId headerSecret presentedId presentedSecret isUnclearId isImpostor callClient isInvalidClient formReasons challengeAnswered readExchange readRefresh readCredentials readGrant readToken errorReply refusalReply tokenReply refreshMember challenges firstOf unlessRefused refusedPlan exchangePlan refreshPlan credentialsPlan planFor slotsBy checkSlots replyText serveToken serveCheck
 spentCases =
     -- ---- "Keep an exchanged code as kind 5, spent, until its old expiry.": in its place, with its handle, client, farm, scope and expiry.
     -- "Each access and refresh token records the handle of the code it came from". A bound code; one that is not, of another client, farm and
@@ -319,7 +319,8 @@ spentCases =
     (withdrawsIn (spent code ∷ newAccess ∷ spentTwin 0 1599 ∷ newRefresh ∷ []) (spent code ∷ freeSlot ∷ spentTwin 0 1599 ∷ freeSlot ∷ [])) refl
     ∷ row
     (withdrawsIn (spent code ∷ newAccess ∷ spentTwin 1 1600 ∷ newRefresh ∷ []) (spent code ∷ freeSlot ∷ spentTwin 1 1600 ∷ freeSlot ∷ [])) refl
-    -- ---- the handle of twenty zero bytes: codes hold zero in the place of an origin, and none of them is cleared, nor a spent one
+    -- ---- the handle of twenty zero bytes: codes without a challenge hold zero in the place of an origin, and none of them is
+    -- cleared, nor a spent one
     ∷ row
     (call
     (some (unboundCode ∷ code ∷ spent zeroCode ∷ spent boundCode ∷ from (replicate 20 0) newAccess ∷ accessToken ∷ from (replicate 20 0) runOut ∷ []))

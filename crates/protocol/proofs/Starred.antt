@@ -15,7 +15,7 @@ use Rattle.octets.specs.BigEndian.{bigEndianBytes}
 use Rattle.octets.proofs.Booleans.{and-left, and-right}
 use Rattle.octets.proofs.Lists.{same-eq}
 use Rattle.encoding.specs.Hex.{hexText, hexDigit, hexValue, isHandleText, unhex, readHandle}
-use Rattle.encoding.specs.Base64.{isBase64, base64Bytes, groupBytes, soundGroup, sextet, none}
+use Rattle.encoding.specs.Base64.{standard, readDigest, isDigestText, isBase64, base64Bytes, groupBytes, soundGroup, sextet, none}
 use Rattle.form_coding.specs.Coding.{decodeAfter, firstByte, extra, isEscape, plain, wellFormed, sound, encode, encodeByte}
 use Rattle.form.specs.Content.{isWellFormedForm, pieceName, pieceValue, gives, add, valueIn, formValue, isMissing, isRepeated, onlyValue, isOnce, Value, missing, once, repeated}
 use Rattle.scope.specs.Set.{names}
@@ -25,17 +25,17 @@ use Rattle.scope.specs.declared.ScopeValue.the-variants.{Names, Invalid}
 use Rattle.client_registry.specs.Registry.{soundText, soundId, soundRedirect, soundSecret, soundField, soundCommon, soundPublic, soundConfidential, soundRecord, recordSize, recordsBehind, soundRecords, distinct, fitRegistry}
 use Rattle.client_registry.specs.Sample.{recordOf, registryOf, sampleConfidential, samplePublic, sampleClients, sampleRegistry}
 use Rattle.token_store.specs.Store.{freeSlot, concat, encodeSlot}
-use Rattle.token_store.specs.Fit.{fitSlot}
+use Rattle.token_store.specs.Fit.{fitLink, fitSlot}
 use Rattle.token_store.specs.declared.Slot.{Slot}
 use Rattle.protocol.specs.Answers.{wordText}
 use Rattle.protocol.specs.Refusals.{firstOf}
 use Rattle.protocol.specs.Requests.{askedBy, scopeAsked, fits, scopeGiven, unlessRefused}
-use Rattle.protocol.specs.Authorization.{isBadQuery, queryClient, isBadClient, isBadRedirect, isSoundState, isBadState, isInvalidRequest, isOtherType, isInvalidScope, codeAsked, pageReasons, redirectReasons, readAuthorization, separator, stateText, location, codeParameter, errorParameter, locationText}
+use Rattle.protocol.specs.Authorization.{isBadQuery, queryClient, isBadClient, isBadRedirect, isSoundState, isBadState, challengeGiven, isBadChallenge, isInvalidRequest, isOtherType, isInvalidScope, codeAsked, pageReasons, redirectReasons, readAuthorization, separator, stateText, location, codeParameter, errorParameter, locationText}
 use Rattle.protocol.specs.ClientForms.{isInvalidForm, lowerCase, sameAnyCase, credentials, isBadHeader, headerId, headerSecret, presentedId, presentedSecret, isUnclearId, isImpostor, callClient, isInvalidClient, formReasons}
-use Rattle.protocol.specs.Token.{readExchange, readRefresh, readGrant, readToken, errorReply, refusalReply, tokenReply, refreshMember, challenges}
+use Rattle.protocol.specs.Token.{challengeAnswered, readExchange, readRefresh, readGrant, readToken, errorReply, refusalReply, tokenReply, refreshMember, challenges}
 use Rattle.protocol.specs.Granting.{refusedPlan, codePlan, exchangePlan, refreshPlan, planFor, slotsBy}
 use Rattle.protocol.specs.Outcomes.{serveAuthorization, replyText, serveToken}
-use Rattle.protocol.proofs.Cases.{authorization, token, holding, slot, from, spent, Case, Decided, decided, agrees}
+use Rattle.protocol.proofs.Cases.{authorization, token, holding, slot, from, spent, challenging, Case, Decided, decided, agrees}
 unfoldable pub use Rattle.protocol.proofs.Cases.{countUp}
 
 -- ---- what the definitions say of a text
@@ -106,8 +106,8 @@ cases =
     decides
     (queried rfcQuery 1 0 (bytes "https://client.example.com/cb?code=000102030405060708090a0b0c0d0e0f10111213&state=xyz") (codeIssued ∷ []))
     ∷ decides (queried rfcQuery 0 7 (bytes "https://client.example.com/cb?error=access_denied&state=xyz") [])
-    ∷ says (base64Bytes (bytes "czZCaGRSa3F0MzpnWDFmQmF0M2JW")) (bytes "s6BhdRkqt3:gX1fBat3bV")
-    ∷ says (yes (isBase64 (bytes "czZCaGRSa3F0MzpnWDFmQmF0M2JW"))) (1 ∷ [])
+    ∷ says (base64Bytes standard (bytes "czZCaGRSa3F0MzpnWDFmQmF0M2JW")) (bytes "s6BhdRkqt3:gX1fBat3bV")
+    ∷ says (yes (isBase64 standard (bytes "czZCaGRSa3F0MzpnWDFmQmF0M2JW"))) (1 ∷ [])
     -- "The code is live at 1599, not at 1600.": it is exchanged, and is not
     ∷ decides
     (exchanged 1599 200 0
@@ -124,7 +124,8 @@ cases =
     ∷ says (encode (0x20 ∷ 0x25 ∷ 0x26 ∷ 0x2B ∷ 0xC2 ∷ 0xA3 ∷ 0xE2 ∷ 0x82 ∷ 0xAC ∷ [])) (bytes "+%25%26%2B%C2%A3%E2%82%AC")
     ∷ says (yes (isWellFormedForm (bytes "a=%4"))) (0 ∷ [])
     ∷ says (times (formValue (bytes "state=&state=x") (bytes "state"))) (1 ∷ [])
-    ∷ decides (queried (bytes "response_type=code&client_id=barnapp") 0 7 (bytes "https://barn.example/r?x=1&error=access_denied") [])
+    -- "document 01's barnapp case is amended to carry a challenge"
+    ∷ decides (queried (bytes "response_type=code&client_id=barnapp" ++ challenging) 0 7 (bytes "https://barn.example/r?x=1&error=access_denied") [])
     ∷ []
 
 -- ---- the claim
@@ -148,7 +149,7 @@ all-stars (decides c ∷ stars) e =
     (decided c (and-left (agrees c) (asThePaperHas stars) e), all-stars stars (and-right (agrees c) (asThePaperHas stars) e))
 
 computed : asThePaperHas cases ≡ true
-unfolding asThePaperHas cases yes number times rfcQuery codeIssued every same indexOf splitOn grow count any indexWhere firstOr replaceFirst bigEndianBytes hexText hexDigit hexValue isHandleText unhex readHandle isBase64 base64Bytes groupBytes soundGroup sextet none decodeAfter firstByte extra isEscape plain wellFormed sound encode encodeByte isWellFormedForm pieceName pieceValue gives add valueIn formValue isMissing isRepeated onlyValue isOnce names bitFrom bitOf union readScope chosen spaced scopeText soundText soundId soundRedirect soundSecret soundField soundCommon soundPublic soundConfidential soundRecord recordSize recordsBehind soundRecords distinct fitRegistry recordOf registryOf sampleConfidential samplePublic sampleClients sampleRegistry freeSlot concat encodeSlot fitSlot wordText firstOf askedBy scopeAsked fits scopeGiven unlessRefused isBadQuery queryClient isBadClient isBadRedirect isSoundState isBadState isInvalidRequest isOtherType isInvalidScope codeAsked pageReasons redirectReasons readAuthorization separator stateText location codeParameter errorParameter locationText isInvalidForm lowerCase sameAnyCase credentials isBadHeader headerId headerSecret presentedId presentedSecret isUnclearId isImpostor callClient isInvalidClient formReasons readExchange readRefresh readGrant readToken errorReply refusalReply tokenReply refreshMember challenges refusedPlan codePlan exchangePlan refreshPlan planFor slotsBy serveAuthorization replyText serveToken
+unfolding asThePaperHas cases yes number times rfcQuery codeIssued every same indexOf splitOn grow count any indexWhere firstOr replaceFirst bigEndianBytes hexText hexDigit hexValue isHandleText unhex readHandle readDigest isDigestText isBase64 base64Bytes groupBytes soundGroup sextet none decodeAfter firstByte extra isEscape plain wellFormed sound encode encodeByte isWellFormedForm pieceName pieceValue gives add valueIn formValue isMissing isRepeated onlyValue isOnce names bitFrom bitOf union readScope chosen spaced scopeText soundText soundId soundRedirect soundSecret soundField soundCommon soundPublic soundConfidential soundRecord recordSize recordsBehind soundRecords distinct fitRegistry recordOf registryOf sampleConfidential samplePublic sampleClients sampleRegistry freeSlot concat encodeSlot fitLink fitSlot wordText firstOf askedBy scopeAsked fits scopeGiven unlessRefused isBadQuery queryClient isBadClient isBadRedirect isSoundState isBadState challengeGiven isBadChallenge isInvalidRequest isOtherType isInvalidScope codeAsked pageReasons redirectReasons readAuthorization separator stateText location codeParameter errorParameter locationText isInvalidForm lowerCase sameAnyCase credentials isBadHeader headerId headerSecret presentedId presentedSecret isUnclearId isImpostor callClient isInvalidClient formReasons challengeAnswered readExchange readRefresh readGrant readToken errorReply refusalReply tokenReply refreshMember challenges refusedPlan codePlan exchangePlan refreshPlan planFor slotsBy serveAuthorization replyText serveToken
 computed = refl
 
 -- every starred case stands as the paper has it

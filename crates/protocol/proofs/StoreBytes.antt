@@ -1,6 +1,7 @@
 -- The bytes of a store, by computation: "First the mark, 8 bytes, big-endian ..; then 512 slots": "kind, handle 20, client number 1, farm 4,
--- scope set 1, expiry 8 (farm and expiry big-endian)." "Slots grow to 55 bytes, the 20 new ones last .. and the ledger to 28,168." The cases
--- write a store as a record; by this they speak of the paper's bytes.
+-- scope set 1, expiry 8 (farm and expiry big-endian)." Then a token's origin, or a challenge, "its 32 bytes in the place where tokens
+-- hold their origin"; "every slot becomes 67 bytes, zero-filled .., the ledger 34,312". The cases write a store as a record; by this they
+-- speak of the paper's bytes.
 -- Assumes nothing.
 use mathlib.Core.Path.{_≡_, refl}
 use mathlib.Core.List.{[], _∷_, _++_}
@@ -8,11 +9,11 @@ use lib.ListN.{replicate}
 use Rattle.octets.specs.BigEndian.{bigEndianBytes}
 use Rattle.token_store.specs.Store.{freeSlot, concat, encodeSlot, encode}
 use Rattle.token_store.specs.declared.Slot.{Slot}
-use Rattle.protocol.proofs.Cases.{holding, slot, from, spent, countUp, storeOf}
+use Rattle.protocol.proofs.Cases.{holding, slot, linked, from, spent, countUp, storeOf}
 
--- a bound code of client 3, each byte of its numbers another; the same once it is exchanged; a refresh token that it brought
+-- a bound code of client 3 with a challenge, each byte of its numbers another; the same once it is exchanged; a refresh token that it brought
 bound : Slot
-bound = slot 2 (countUp 20 100) 3 0x04050607 8 0x090A0B0C0D0E0F10
+bound = linked (countUp 32 200) (slot 7 (countUp 20 100) 3 0x04050607 8 0x090A0B0C0D0E0F10)
 
 refresh : Slot
 refresh = from (countUp 20 100) (slot 4 (countUp 20 150) 3 0x04050607 8 0x1112131415161718)
@@ -20,20 +21,20 @@ refresh = from (countUp 20 100) (slot 4 (countUp 20 150) 3 0x04050607 8 0x111213
 -- the store with these slots first, at a time
 store-bytes : encode (storeOf (holding 0x1112131415 (bound ∷ spent bound ∷ refresh ∷ [])))
     ≡ 0 ∷ 0 ∷ 0 ∷ 0x11 ∷ 0x12 ∷ 0x13 ∷ 0x14 ∷ 0x15
-    ∷ 2
+    ∷ 7
     ∷ countUp 20 100
     ++ 3
     ∷ 4 ∷ 5 ∷ 6 ∷ 7
     ∷ 8
     ∷ 9 ∷ 10 ∷ 11 ∷ 12 ∷ 13 ∷ 14 ∷ 15 ∷ 16
-    ∷ replicate 20 0
+    ∷ countUp 32 200
     ++ 5
     ∷ countUp 20 100
     ++ 3
     ∷ 4 ∷ 5 ∷ 6 ∷ 7
     ∷ 8
     ∷ 9 ∷ 10 ∷ 11 ∷ 12 ∷ 13 ∷ 14 ∷ 15 ∷ 16
-    ∷ replicate 20 0
+    ∷ replicate 32 0
     ++ 4
     ∷ countUp 20 150
     ++ 3
@@ -41,6 +42,7 @@ store-bytes : encode (storeOf (holding 0x1112131415 (bound ∷ spent bound ∷ r
     ∷ 8
     ∷ 17 ∷ 18 ∷ 19 ∷ 20 ∷ 21 ∷ 22 ∷ 23 ∷ 24
     ∷ countUp 20 100
-    ++ replicate 27995 0
+    ++ replicate 12 0
+    ++ replicate 34103 0
 unfolding bound refresh freeSlot concat encodeSlot encode bigEndianBytes
 store-bytes = refl

@@ -1,4 +1,4 @@
--- A store of any length but 28,168 bytes, whatever they are, is refusal 3 alone at every endpoint: output and store stay as they were,
+-- A store of any length but 34,312 bytes, whatever they are, is refusal 3 alone at every endpoint: output and store stay as they were,
 -- the length is 0, and there is no challenge. For the registry and buffers are fit, so that the first refusal that applies is this one.
 -- Assumes nothing.
 use Prim.Native.Nat.{ℕ, _≤_}
@@ -16,7 +16,7 @@ use Rattle.protocol.specs.declared.Decision.the-variants.{Refuse}
 use Rattle.protocol.specs.declared.Input.the-variants.{Store}
 use Rattle.protocol.specs.declared.CheckAnswer.the-variants.{Refused}
 
-module _ (registry store : List ℕ) (fit : fitRegistry registry ≡ true) (other : length store ≡ 28168 → ⊥) where
+module _ (registry store : List ℕ) (fit : fitRegistry registry ≡ true) (other : length store ≡ 34312 → ⊥) where
   refused-by : {A : Type 0} (endpoint : Endpoint A) (handed : Handed) → endpoint .unfit handed ≡ false
       → outcome endpoint registry store handed ≡ record { answer = endpoint .refuse (Unfit Store); output = handed .output; store = store }
   unfolding outcome admit firstOf outcomeBy

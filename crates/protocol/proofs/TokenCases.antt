@@ -3,8 +3,8 @@
 -- Each case is a call from raw bytes and what the paper has for it: status, error number, challenge, the whole reply, and the
 -- store after (`Cases`). Where a test is about one clause, everything else about the call is right, so that a definition without
 -- the clause grants it; where two reasons apply, the case that comes next has the first of them mended. The cases of the
--- client_credentials grant are in `CredentialsCases`, those of a header's two halves in `HeaderCases`, and those of codes that are spent in
--- `SpentCases`.
+-- client_credentials grant are in `CredentialsCases`, those of a header's two halves in `HeaderCases`, those of codes that are spent in
+-- `SpentCases`, and those of codes with a challenge in `ChallengeCases`.
 --
 -- In order: clients, slots and stores; answers; calls; the cases, by the paper's order of refusals; two limits that no call shows.
 -- Assumes nothing.
@@ -27,17 +27,17 @@ use Rattle.scope.specs.Value.{bitFrom, bitOf, union, readScope, chosen, spaced,
 use Rattle.client_registry.specs.Registry.{Client, soundText, soundId, soundRedirect, soundSecret, soundField, soundCommon, soundPublic, soundConfidential, soundRecord, recordSize, recordsBehind, soundRecords, distinct, fitRegistry, clientsOf}
 use Rattle.client_registry.specs.Sample.{recordOf, registryOf, sampleConfidential, samplePublic}
 use Rattle.token_store.specs.Store.{freeSlot, concat, encodeSlot}
-use Rattle.token_store.specs.Fit.{fitSlot}
+use Rattle.token_store.specs.Fit.{fitLink, fitSlot}
 use Rattle.token_store.specs.declared.Slot.{Slot}
 use Rattle.protocol.specs.Answers.{wordText}
 use Rattle.protocol.specs.Refusals.{firstOf}
 use Rattle.protocol.specs.Requests.{askedBy, scopeAsked, fits, scopeGiven, unlessRefused}
 use Rattle.protocol.specs.ClientForms.{isInvalidForm, lowerCase, sameAnyCase, credentials, isBadHeader, headerId, headerSecret, presentedId, presentedSecret, isUnclearId, isImpostor, callClient, isInvalidClient, formReasons}
-use Rattle.protocol.specs.Token.{readExchange, readRefresh, readGrant, readToken, errorReply, refusalReply, tokenReply, refreshMember, challenges}
+use Rattle.protocol.specs.Token.{challengeAnswered, readExchange, readRefresh, readGrant, readToken, errorReply, refusalReply, tokenReply, refreshMember, challenges}
 use Rattle.protocol.specs.Granting.{refusedPlan, exchangePlan, refreshPlan, planFor, slotsBy}
 use Rattle.protocol.specs.Outcomes.{replyText, serveToken}
 use Rattle.protocol.proofs.TokenRows.{agreesOn, rowOn}
-use Rattle.protocol.proofs.Cases.{token, ShortStore, holding, slot, from, spent, countUp, Case, Row}
+use Rattle.protocol.proofs.Cases.{token, ShortStore, holding, slot, linked, from, spent, countUp, Case, Row}
 
 -- ---- clients, slots and stores
 
@@ -110,7 +110,7 @@ refresh code t new = from (code .handle) (slot 4 new (code .client) (code .farm)
 
 -- the access token for a scope that a refresh issues: its origin is that of the refresh token
 abbrev pub renewed : Slot → ℕ → List ℕ → ℕ → Slot
-renewed shown t new scope = from (shown .origin) (slot 3 new (shown .client) (shown .farm) scope (t + 3600))
+renewed shown t new scope = linked (shown .link) (slot 3 new (shown .client) (shown .farm) scope (t + 3600))
 
 -- a store with these slots, the others free, or in use and live
 abbrev pub some : List Slot → ShortStore
@@ -324,7 +324,7 @@ refreshesIn before after = call (crowded before) 1599 twoHandles basic refreshin
 -- ---- the table
 
 pub tokenCases : List Row
-unfolding every same indexOf splitOn grow hexText hexDigit hexValue isHandleText unhex readHandle isBase64 base64Bytes groupBytes soundGroup sextet none decodeAfter firstByte extra isEscape plain wellFormed sound isWellFormedForm pieceName pieceValue gives add valueIn formValue names bitFrom bitOf union readScope chosen spaced scopeText sampleConfidential samplePublic count any indexWhere firstOr replaceFirst replaceAll freeSlot bigEndianBytes concat encodeSlot fitSlot wordText isMissing isRepeated onlyValue isOnce askedBy scopeAsked fits scopeGiven isInvalidForm lowerCase sameAnyCase credentials isBadHeader headerId headerSecret presentedId presentedSecret isUnclearId isImpostor callClient isInvalidClient formReasons readExchange readRefresh readGrant readToken errorReply refusalReply tokenReply refreshMember challenges firstOf unlessRefused refusedPlan exchangePlan refreshPlan planFor slotsBy replyText serveToken
+unfolding every same indexOf splitOn grow hexText hexDigit hexValue isHandleText unhex readHandle isBase64 base64Bytes groupBytes soundGroup sextet none decodeAfter firstByte extra isEscape plain wellFormed sound isWellFormedForm pieceName pieceValue gives add valueIn formValue names bitFrom bitOf union readScope chosen spaced scopeText sampleConfidential samplePublic count any indexWhere firstOr replaceFirst replaceAll freeSlot bigEndianBytes concat encodeSlot fitLink fitSlot wordText isMissing isRepeated onlyValue isOnce askedBy scopeAsked fits scopeGiven isInvalidForm lowerCase sameAnyCase credentials isBadHeader headerId headerSecret presentedId presentedSecret isUnclearId isImpostor callClient isInvalidClient formReasons challengeAnswered readExchange readRefresh readGrant readToken errorReply refusalReply tokenReply refreshMember challenges firstOf unlessRefused refusedPlan exchangePlan refreshPlan planFor slotsBy replyText serveToken
 tokenCases =
     -- ---- success, status 200: an exchange of a bound code, of one that is not, and a refresh
     row (exchanges basic exchange) refl
@@ -340,7 +340,7 @@ tokenCases =
     ∷ row (refuses basic (exchange ++ bytes "&a%=b") invalidRequest) refl
     ∷ row (refuses basic (bytes "%&" ++ exchange) invalidRequest) refl
     ∷ row (exchanges basic (exchange ++ bytes "&%4a=%4A")) refl
-    -- each known name repeated
+    -- each known name repeated; code_verifier in `ChallengeCases`
     ∷ row (refuses basic (exchange ++ bytes "&client_id=s6BhdRkqt3&client_id=s6BhdRkqt3") invalidRequest) refl
     ∷ row (refuses [] (exchange ++ bytes "&client_id=s6BhdRkqt3&client_secret=gX1fBat3bV&client_secret=gX1fBat3bV") invalidRequest) refl
     ∷ row (refuses basic (exchange ++ bytes "&grant_type=authorization_code") invalidRequest) refl
@@ -354,7 +354,7 @@ tokenCases =
     ∷ row (exchanges basic (bytes "code=&code&" ++ exchange ++ bytes "&grant_type=")) refl
     -- unknown names are ignored, repeated or not; a name in another case is unknown
     ∷ row (exchanges basic (exchange ++ bytes "&a=1&b=2&a=3")) refl
-    ∷ row (exchanges basic (exchange ++ bytes "&Code=1&code_verifier=2&response_type=3&response_type=4")) refl
+    ∷ row (exchanges basic (exchange ++ bytes "&Code=1&code_challenge=2&code_challenge=2&response_type=3&response_type=4")) refl
     -- empty pieces are skipped; names and values are decoded, after the pieces are parted and at the first `=`
     ∷ row (exchanges basic (bytes "&&" ++ exchange ++ bytes "&&")) refl
     ∷ row

@@ -3,7 +3,7 @@
 -- A call that is refused so answers its number and nothing else, writes nothing and changes nothing: `after` is the store as it was.
 -- A call that passes is answered at once with what an empty query, an empty body or no token gets, and the store has its time.
 --
--- Not here: stores of another length than 28,168 bytes (`StoreLength`).
+-- Not here: stores of another length than 34,312 bytes (`StoreLength`).
 use Prim.Native.Nat.{ℕ, zero, suc, _+_, _-_, _^_}
 use mathlib.Core.Path.{refl}
 use mathlib.Core.List.{List, [], _∷_, _++_}
@@ -13,22 +13,23 @@ use Rattle.octets.specs.Lists.{every, same, indexOf, splitOn, grow}
 use Rattle.octets.specs.Search.{count, any, indexWhere, firstOr, replaceFirst}
 use Rattle.octets.specs.BigEndian.{bigEndianBytes}
 use Rattle.encoding.specs.Hex.{hexText, hexDigit, hexValue, isHandleText, unhex, readHandle}
+use Rattle.encoding.specs.Base64.{readDigest, isDigestText, isBase64, base64Bytes, groupBytes, soundGroup, sextet, none}
 use Rattle.form_coding.specs.Coding.{decodeAfter, firstByte, extra, isEscape, plain, wellFormed, sound, encode, encodeByte}
 use Rattle.form.specs.Content.{isWellFormedForm, pieceName, pieceValue, gives, add, valueIn, formValue, isMissing, isRepeated, onlyValue, isOnce}
 use Rattle.client_registry.specs.Registry.{soundText, soundId, soundRedirect, soundSecret, soundField, soundCommon, soundPublic, soundConfidential, soundRecord, recordSize, recordsBehind, soundRecords, distinct, fitRegistry}
 use Rattle.client_registry.specs.Sample.{recordOf, registryOf, sampleConfidential, samplePublic, sampleClients, sampleRegistry}
-use Rattle.token_store.specs.Store.{freeSlot, concat, encodeSlot}
-use Rattle.token_store.specs.Fit.{fitSlot}
+use Rattle.token_store.specs.Store.{linkTo, freeSlot, concat, encodeSlot}
+use Rattle.token_store.specs.Fit.{fitLink, fitSlot}
 use Rattle.token_store.specs.declared.Slot.{Slot}
 use Rattle.protocol.specs.Answers.{wordText}
 use Rattle.protocol.specs.Refusals.{firstOf}
 use Rattle.protocol.specs.Requests.{scopeAsked, fits, scopeGiven, unlessRefused}
-use Rattle.protocol.specs.Authorization.{isBadQuery, queryClient, isBadClient, isBadRedirect, isSoundState, isBadState, isInvalidRequest, isOtherType, isInvalidScope, codeAsked, pageReasons, redirectReasons, readAuthorization, separator, stateText, location, codeParameter, locationText}
+use Rattle.protocol.specs.Authorization.{isBadQuery, queryClient, isBadClient, isBadRedirect, isSoundState, isBadState, challengeGiven, isBadChallenge, isInvalidRequest, isOtherType, isInvalidScope, codeAsked, pageReasons, redirectReasons, readAuthorization, separator, stateText, location, codeParameter, locationText}
 use Rattle.protocol.specs.ClientForms.{isInvalidForm, formReasons}
 use Rattle.protocol.specs.Token.{readToken, errorReply, refusalReply, challenges}
 use Rattle.protocol.specs.Granting.{refusedPlan, codePlan, planFor, slotsBy, checkSlots}
 use Rattle.protocol.specs.Outcomes.{serveAuthorization, replyText, serveToken, serveCheck}
-use Rattle.protocol.proofs.Cases.{Call, authorization, token, check, ShortStore, holding, slot, from, countUp, Case, Row, row}
+use Rattle.protocol.proofs.Cases.{Call, authorization, token, check, ShortStore, holding, slot, linked, challenge, challenging, countUp, Case, Row, row}
 
 -- ---- calls
 
@@ -101,7 +102,7 @@ abbrev buffersFit : Call → ℕ → List ℕ → Case
 buffersFit call room random = passes call room random sampleRegistry (holding 0 []) 1000
 
 pub buffers : List Row
-unfolding every same indexOf splitOn grow any indexWhere firstOr bigEndianBytes hexValue isHandleText unhex readHandle decodeAfter firstByte extra isEscape plain wellFormed sound isWellFormedForm pieceName pieceValue gives add valueIn formValue isMissing isRepeated onlyValue isOnce soundText soundId soundRedirect soundSecret soundField soundCommon soundPublic soundConfidential soundRecord recordSize recordsBehind soundRecords distinct fitRegistry recordOf registryOf sampleConfidential samplePublic sampleClients sampleRegistry freeSlot concat encodeSlot fitSlot wordText firstOf unlessRefused isBadQuery queryClient isBadClient isBadRedirect pageReasons redirectReasons readAuthorization locationText isInvalidForm formReasons readToken errorReply refusalReply challenges refusedPlan planFor slotsBy checkSlots serveAuthorization replyText serveToken serveCheck
+unfolding every same indexOf splitOn grow any indexWhere firstOr bigEndianBytes hexValue isHandleText unhex readHandle decodeAfter firstByte extra isEscape plain wellFormed sound isWellFormedForm pieceName pieceValue gives add valueIn formValue isMissing isRepeated onlyValue isOnce soundText soundId soundRedirect soundSecret soundField soundCommon soundPublic soundConfidential soundRecord recordSize recordsBehind soundRecords distinct fitRegistry recordOf registryOf sampleConfidential samplePublic sampleClients sampleRegistry freeSlot concat encodeSlot fitLink fitSlot wordText firstOf unlessRefused isBadQuery queryClient isBadClient isBadRedirect pageReasons redirectReasons readAuthorization locationText isInvalidForm formReasons readToken errorReply refusalReply challenges refusedPlan planFor slotsBy checkSlots serveAuthorization replyText serveToken serveCheck
 buffers =
     -- "output below 1,024"
     row (buffersUnfit emptyQuery 1023 (countUp 20 0)) refl
@@ -122,9 +123,9 @@ buffers =
 
 -- ---- the clock, the mark, and the order of the four
 
--- a store with a slot of kind 6
+-- a store with a slot of kind 8
 abbrev badStore : ShortStore
-badStore = holding 0 (slot 6 (countUp 20 0) 0 7 11 1600 ∷ [])
+badStore = holding 0 (slot 8 (countUp 20 0) 0 7 11 1600 ∷ [])
 
 abbrev usual : Call → List ℕ → ShortStore → ℕ → ℕ → Case
 usual call registry store clock number = refused call 1024 (enough call) registry store clock number
@@ -133,7 +134,7 @@ abbrev usualPass : Call → ShortStore → ℕ → Case
 usualPass call store clock = passes call 1024 (enough call) sampleRegistry store clock
 
 pub order : List Row
-unfolding every same indexOf splitOn grow any indexWhere firstOr bigEndianBytes hexValue isHandleText unhex readHandle decodeAfter firstByte extra isEscape plain wellFormed sound isWellFormedForm pieceName pieceValue gives add valueIn formValue isMissing isRepeated onlyValue isOnce soundText soundId soundRedirect soundSecret soundField soundCommon soundPublic soundConfidential soundRecord recordSize recordsBehind soundRecords distinct fitRegistry recordOf registryOf sampleConfidential samplePublic sampleClients sampleRegistry freeSlot concat encodeSlot fitSlot wordText firstOf unlessRefused isBadQuery queryClient isBadClient isBadRedirect pageReasons redirectReasons readAuthorization locationText isInvalidForm formReasons readToken errorReply refusalReply challenges refusedPlan planFor slotsBy checkSlots serveAuthorization replyText serveToken serveCheck
+unfolding every same indexOf splitOn grow any indexWhere firstOr bigEndianBytes hexValue isHandleText unhex readHandle decodeAfter firstByte extra isEscape plain wellFormed sound isWellFormedForm pieceName pieceValue gives add valueIn formValue isMissing isRepeated onlyValue isOnce soundText soundId soundRedirect soundSecret soundField soundCommon soundPublic soundConfidential soundRecord recordSize recordsBehind soundRecords distinct fitRegistry recordOf registryOf sampleConfidential samplePublic sampleClients sampleRegistry freeSlot concat encodeSlot fitLink fitSlot wordText firstOf unlessRefused isBadQuery queryClient isBadClient isBadRedirect pageReasons redirectReasons readAuthorization locationText isInvalidForm formReasons readToken errorReply refusalReply challenges refusedPlan planFor slotsBy checkSlots serveAuthorization replyText serveToken serveCheck
 order =
     -- each two neighbours apply, then the second alone: 1 and 2, 2 and 3, 3 and 4, 4 and what comes behind
     row (refused emptyQuery 1023 (countUp 20 0) [] (holding 0 []) 1000 1) refl
@@ -177,28 +178,24 @@ storeFit store = usualPass noToken store 1000
 abbrev oneSlot : Slot → ShortStore
 oneSlot s = holding 0 (s ∷ [])
 
--- origins of which one byte is not zero, the first, one within and the last
-abbrev firstByteOne : List ℕ
-firstByteOne = 1 ∷ replicate 19 0
+-- a link of which the byte with this number alone is not zero
+abbrev oneByte : ℕ → List ℕ
+oneByte n = replicate n 0 ++ 1 ∷ replicate (31 - n) 0
 
-abbrev innerByteOne : List ℕ
-innerByteOne = replicate 9 0 ++ 1 ∷ replicate 10 0
-
-abbrev lastByteOne : List ℕ
-lastByteOne = replicate 19 0 ++ 1 ∷ []
-
--- a store with a slot of a kind that has this origin
-abbrev originIs : ℕ → List ℕ → ShortStore
-originIs kind origin = oneSlot (from origin (slot kind (countUp 20 0) 0 7 11 1600))
+-- a store with a slot of a kind that has this link
+abbrev linkIs : ℕ → List ℕ → ShortStore
+linkIs kind link = oneSlot (linked link (slot kind (countUp 20 0) 0 7 11 1600))
 
 pub slots : List Row
-unfolding every same firstOr bigEndianBytes hexValue isHandleText unhex readHandle soundText soundId soundRedirect soundSecret soundField soundCommon soundPublic soundConfidential soundRecord recordSize recordsBehind soundRecords distinct fitRegistry recordOf registryOf sampleConfidential samplePublic sampleClients sampleRegistry freeSlot concat encodeSlot fitSlot firstOf checkSlots serveCheck
+unfolding every same firstOr bigEndianBytes hexValue isHandleText unhex readHandle soundText soundId soundRedirect soundSecret soundField soundCommon soundPublic soundConfidential soundRecord recordSize recordsBehind soundRecords distinct fitRegistry recordOf registryOf sampleConfidential samplePublic sampleClients sampleRegistry freeSlot concat encodeSlot fitLink fitSlot firstOf checkSlots serveCheck
 slots =
-    -- kinds go up to 5
+    -- kinds go up to 7
     row (storeFit (oneSlot (slot 1 (countUp 20 0) 0 7 11 1600))) refl
     ∷ row (storeFit (oneSlot (slot 4 (countUp 20 0) 0 7 11 1600))) refl
     ∷ row (storeFit (oneSlot (slot 5 (countUp 20 0) 0 7 11 1600))) refl
-    ∷ row (storeUnfit (oneSlot (slot 6 (countUp 20 0) 0 7 11 1600))) refl
+    ∷ row (storeFit (oneSlot (slot 6 (countUp 20 0) 0 7 11 1600))) refl
+    ∷ row (storeFit (oneSlot (slot 7 (countUp 20 0) 0 7 11 1600))) refl
+    ∷ row (storeUnfit (oneSlot (slot 8 (countUp 20 0) 0 7 11 1600))) refl
     ∷ row (storeUnfit (oneSlot (slot 255 (countUp 20 0) 0 7 11 1600))) refl
     -- a client number in the registry, which has two
     ∷ row (storeFit (oneSlot (slot 3 (countUp 20 0) 1 7 11 1600))) refl
@@ -206,29 +203,46 @@ slots =
     ∷ row (storeUnfit (oneSlot (slot 1 (countUp 20 0) 255 7 11 1600))) refl
     ∷ row (storeFit (oneSlot (slot 5 (countUp 20 0) 1 7 11 1600))) refl
     ∷ row (storeUnfit (oneSlot (slot 5 (countUp 20 0) 2 7 11 1600))) refl
+    ∷ row (storeFit (oneSlot (linked challenge (slot 7 (countUp 20 0) 1 7 11 1600)))) refl
+    ∷ row (storeUnfit (oneSlot (linked challenge (slot 6 (countUp 20 0) 2 7 11 1600)))) refl
     -- a scope set that is not empty
     ∷ row (storeFit (oneSlot (slot 2 (countUp 20 0) 1 7 255 1600))) refl
     ∷ row (storeUnfit (oneSlot (slot 2 (countUp 20 0) 1 7 0 1600))) refl
     ∷ row (storeFit (oneSlot (slot 5 (countUp 20 0) 1 7 255 1600))) refl
     ∷ row (storeUnfit (oneSlot (slot 5 (countUp 20 0) 1 7 0 1600))) refl
+    ∷ row (storeUnfit (oneSlot (linked challenge (slot 6 (countUp 20 0) 1 7 0 1600)))) refl
+    ∷ row (storeUnfit (oneSlot (linked challenge (slot 7 (countUp 20 0) 1 7 0 1600)))) refl
     -- farm, expiry and handle are free: all zero, as high as may be, one handle twice
     ∷ row (storeFit (oneSlot (slot 3 (replicate 20 0) 0 0 1 0))) refl
     ∷ row (storeFit (holding 0 (slot 3 (replicate 20 255) 0 (2 ^ 32 - 1) 1 (2 ^ 64 - 1) ∷ slot 3 (replicate 20 255) 0 0 1 0 ∷ []))) refl
-    -- the origin: "zero in codes (spent ones too; else refusal 3)"; in tokens any bytes, zeros and their own handle too
-    ∷ row (storeUnfit (originIs 1 firstByteOne)) refl
-    ∷ row (storeUnfit (originIs 1 lastByteOne)) refl
-    ∷ row (storeUnfit (originIs 2 firstByteOne)) refl
-    ∷ row (storeUnfit (originIs 2 lastByteOne)) refl
-    ∷ row (storeUnfit (originIs 5 firstByteOne)) refl
-    ∷ row (storeUnfit (originIs 5 innerByteOne)) refl
-    ∷ row (storeUnfit (originIs 5 lastByteOne)) refl
-    ∷ row (storeUnfit (originIs 5 (countUp 20 0))) refl
-    ∷ row (storeFit (originIs 3 (replicate 20 0))) refl
-    ∷ row (storeFit (originIs 3 firstByteOne)) refl
-    ∷ row (storeFit (originIs 3 (countUp 20 0))) refl
-    ∷ row (storeFit (originIs 4 lastByteOne)) refl
-    ∷ row (storeFit (originIs 4 (replicate 20 255))) refl
-    ∷ row (storeUnfit (originIs 6 (countUp 20 0))) refl
+    -- the link: "zero in codes (spent ones too; else refusal 3)"
+    ∷ row (storeUnfit (linkIs 1 (oneByte 0))) refl
+    ∷ row (storeUnfit (linkIs 1 (oneByte 31))) refl
+    ∷ row (storeUnfit (linkIs 2 (oneByte 0))) refl
+    ∷ row (storeUnfit (linkIs 2 (oneByte 31))) refl
+    ∷ row (storeUnfit (linkIs 5 (oneByte 0))) refl
+    ∷ row (storeUnfit (linkIs 5 (oneByte 19))) refl
+    ∷ row (storeUnfit (linkIs 5 (oneByte 20))) refl
+    ∷ row (storeUnfit (linkIs 5 (oneByte 31))) refl
+    ∷ row (storeUnfit (linkIs 5 challenge)) refl
+    -- in tokens an origin of any 20 bytes, zeros and their own handle too; the 12 behind it are "zero-filled (else refusal 3)"
+    ∷ row (storeFit (linkIs 3 (replicate 32 0))) refl
+    ∷ row (storeFit (linkIs 3 (oneByte 0))) refl
+    ∷ row (storeFit (linkIs 3 (linkTo (countUp 20 0)))) refl
+    ∷ row (storeFit (linkIs 4 (oneByte 19))) refl
+    ∷ row (storeFit (linkIs 4 (linkTo (replicate 20 255)))) refl
+    ∷ row (storeUnfit (linkIs 3 (oneByte 20))) refl
+    ∷ row (storeUnfit (linkIs 3 (oneByte 31))) refl
+    ∷ row (storeUnfit (linkIs 4 (oneByte 20))) refl
+    ∷ row (storeUnfit (linkIs 4 (oneByte 31))) refl
+    ∷ row (storeUnfit (linkIs 4 challenge)) refl
+    -- in codes with a challenge any 32 bytes, zeros too (above)
+    ∷ row (storeFit (linkIs 6 challenge)) refl
+    ∷ row (storeFit (linkIs 6 (oneByte 0))) refl
+    ∷ row (storeFit (linkIs 6 (replicate 32 255))) refl
+    ∷ row (storeFit (linkIs 7 challenge)) refl
+    ∷ row (storeFit (linkIs 7 (oneByte 31))) refl
+    ∷ row (storeUnfit (linkIs 8 challenge)) refl
     -- kind 0: the body is all zero
     ∷ row (storeFit (oneSlot (slot 0 (replicate 20 0) 0 0 0 0))) refl
     ∷ row (storeUnfit (oneSlot (slot 0 (1 ∷ replicate 19 0) 0 0 0 0))) refl
@@ -239,14 +253,14 @@ slots =
     ∷ row (storeUnfit (oneSlot (slot 0 (replicate 20 0) 0 0 1 0))) refl
     ∷ row (storeUnfit (oneSlot (slot 0 (replicate 20 0) 0 0 0 1))) refl
     ∷ row (storeUnfit (oneSlot (slot 0 (replicate 20 0) 0 0 0 (2 ^ 56)))) refl
-    ∷ row (storeUnfit (oneSlot (from firstByteOne freeSlot))) refl
-    ∷ row (storeUnfit (oneSlot (from innerByteOne freeSlot))) refl
-    ∷ row (storeUnfit (oneSlot (from lastByteOne freeSlot))) refl
+    ∷ row (storeUnfit (oneSlot (linked (oneByte 0) freeSlot))) refl
+    ∷ row (storeUnfit (oneSlot (linked (oneByte 19) freeSlot))) refl
+    ∷ row (storeUnfit (oneSlot (linked (oneByte 31) freeSlot))) refl
     -- one unfit slot is enough, at the last place too, run out or not
     ∷ row (storeUnfit (holding 0 (slot 3 (countUp 20 0) 0 7 11 1600 ∷ slot 3 (countUp 20 1) 0 7 0 1 ∷ []))) refl
-    ∷ row (storeUnfit (record { time = 0; first = replicate 511 freeSlot; rest = slot 6 (countUp 20 0) 0 7 11 1 })) refl
+    ∷ row (storeUnfit (record { time = 0; first = replicate 511 freeSlot; rest = slot 8 (countUp 20 0) 0 7 11 1 })) refl
     ∷ row (storeFit (record { time = 0; first = replicate 511 freeSlot; rest = slot 4 (countUp 20 0) 0 7 11 1 })) refl
-    ∷ row (storeUnfit (record { time = 0; first = replicate 511 freeSlot; rest = from lastByteOne (slot 5 (countUp 20 0) 0 7 11 1) })) refl
+    ∷ row (storeUnfit (record { time = 0; first = replicate 511 freeSlot; rest = linked (oneByte 31) (slot 5 (countUp 20 0) 0 7 11 1) })) refl
     ∷ []
 
 -- ---- registries
@@ -289,7 +303,7 @@ abbrev registryFit : List ℕ → Case
 registryFit registry = passes noToken 1024 [] registry (holding 0 []) 1000
 
 pub registries : List Row
-unfolding every same firstOr bigEndianBytes hexValue isHandleText unhex readHandle soundText soundId soundRedirect soundSecret soundField soundCommon soundPublic soundConfidential soundRecord recordSize recordsBehind soundRecords distinct fitRegistry freeSlot concat encodeSlot fitSlot firstOf checkSlots serveCheck
+unfolding every same firstOr bigEndianBytes hexValue isHandleText unhex readHandle soundText soundId soundRedirect soundSecret soundField soundCommon soundPublic soundConfidential soundRecord recordSize recordsBehind soundRecords distinct fitRegistry freeSlot concat encodeSlot fitLink fitSlot firstOf checkSlots serveCheck
 registries =
     -- kind 1 is 235 bytes behind its kind, kind 2 is 300, and there is no other
     row (registryFit (kindIs 1)) refl
@@ -362,12 +376,12 @@ registries =
 
 -- clients number from 0: with 64 of them, 63 is the last that a slot may have, and a code has the number of its client
 pub manyClients : List Row
-unfolding every same indexOf splitOn grow count any indexWhere firstOr replaceFirst bigEndianBytes hexText hexDigit hexValue isHandleText unhex readHandle decodeAfter firstByte extra isEscape plain wellFormed sound encode encodeByte isWellFormedForm pieceName pieceValue gives add valueIn formValue isMissing isRepeated onlyValue isOnce soundText soundId soundRedirect soundSecret soundField soundCommon soundPublic soundConfidential soundRecord recordSize recordsBehind soundRecords distinct fitRegistry freeSlot concat encodeSlot fitSlot firstOf scopeAsked fits scopeGiven unlessRefused isBadQuery queryClient isBadClient isBadRedirect isSoundState isBadState isInvalidRequest isOtherType isInvalidScope codeAsked pageReasons redirectReasons readAuthorization separator stateText location codeParameter locationText codePlan planFor slotsBy checkSlots serveAuthorization serveCheck
+unfolding every same indexOf splitOn grow count any indexWhere firstOr replaceFirst bigEndianBytes hexText hexDigit hexValue isHandleText unhex readHandle readDigest isDigestText isBase64 base64Bytes groupBytes soundGroup sextet none decodeAfter firstByte extra isEscape plain wellFormed sound encode encodeByte isWellFormedForm pieceName pieceValue gives add valueIn formValue isMissing isRepeated onlyValue isOnce soundText soundId soundRedirect soundSecret soundField soundCommon soundPublic soundConfidential soundRecord recordSize recordsBehind soundRecords distinct fitRegistry freeSlot concat encodeSlot fitLink fitSlot firstOf scopeAsked fits scopeGiven unlessRefused isBadQuery queryClient isBadClient isBadRedirect isSoundState isBadState challengeGiven isBadChallenge isInvalidRequest isOtherType isInvalidScope codeAsked pageReasons redirectReasons readAuthorization separator stateText location codeParameter locationText codePlan planFor slotsBy checkSlots serveAuthorization serveCheck
 manyClients =
     row (passes noToken 1024 [] (many 64) (oneSlot (slot 3 (countUp 20 0) 63 7 1 1600)) 1000) refl
     ∷ row (usual noToken (many 64) (oneSlot (slot 3 (countUp 20 0) 64 7 1 1600)) 1000 3) refl
     ∷ row (record {
-      call = authorization (bytes "response_type=code&client_id=;") 1 7;
+      call = authorization (bytes "response_type=code&client_id=;" ++ challenging) 1 7;
       registry = many 64;
       store = holding 0 [];
       clock = 1000;
@@ -375,6 +389,6 @@ manyClients =
       room = 1024;
       numbers = 0 ∷ 0 ∷ [];
       text = bytes "r?code=000102030405060708090a0b0c0d0e0f10111213";
-      after = holding 1000 (slot 1 (countUp 20 0) 63 7 1 1600 ∷ []);
+      after = holding 1000 (linked challenge (slot 6 (countUp 20 0) 63 7 1 1600) ∷ []);
     }) refl
     ∷ []

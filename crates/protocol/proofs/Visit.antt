@@ -18,14 +18,14 @@ use Rattle.scope.specs.Value.{bitFrom, bitOf, union, readScope, chosen, spaced,
 use Rattle.client_registry.specs.Registry.{soundText, soundId, soundRedirect, soundSecret, soundField, soundCommon, soundPublic, soundConfidential, soundRecord, recordSize, recordsBehind, soundRecords, distinct, fitRegistry}
 use Rattle.client_registry.specs.Sample.{recordOf, registryOf, sampleConfidential, samplePublic, sampleClients, sampleRegistry}
 use Rattle.token_store.specs.Store.{freeSlot, concat, encodeSlot}
-use Rattle.token_store.specs.Fit.{fitSlot}
+use Rattle.token_store.specs.Fit.{fitLink, fitSlot}
 use Rattle.token_store.specs.declared.Slot.{Slot}
 use Rattle.protocol.specs.Answers.{wordText}
 use Rattle.protocol.specs.Refusals.{firstOf}
 use Rattle.protocol.specs.Requests.{askedBy, scopeAsked, fits, scopeGiven, unlessRefused}
-use Rattle.protocol.specs.Authorization.{isBadQuery, queryClient, isBadClient, isBadRedirect, isSoundState, isBadState, isInvalidRequest, isOtherType, isInvalidScope, codeAsked, pageReasons, redirectReasons, readAuthorization, separator, stateText, location, codeParameter, errorParameter, locationText}
+use Rattle.protocol.specs.Authorization.{isBadQuery, queryClient, isBadClient, isBadRedirect, isSoundState, isBadState, challengeGiven, isBadChallenge, isInvalidRequest, isOtherType, isInvalidScope, codeAsked, pageReasons, redirectReasons, readAuthorization, separator, stateText, location, codeParameter, errorParameter, locationText}
 use Rattle.protocol.specs.ClientForms.{isInvalidForm, lowerCase, sameAnyCase, credentials, isBadHeader, headerId, headerSecret, presentedId, presentedSecret, isUnclearId, isImpostor, callClient, isInvalidClient, formReasons}
-use Rattle.protocol.specs.Token.{readExchange, readRefresh, readGrant, readToken, errorReply, refusalReply, tokenReply, refreshMember, challenges}
+use Rattle.protocol.specs.Token.{challengeAnswered, readExchange, readRefresh, readGrant, readToken, errorReply, refusalReply, tokenReply, refreshMember, challenges}
 use Rattle.protocol.specs.Granting.{refusedPlan, codePlan, exchangePlan, refreshPlan, planFor, slotsBy, checkSlots}
 use Rattle.protocol.specs.Outcomes.{serveAuthorization, replyText, serveToken, serveCheck}
 use Rattle.protocol.proofs.Cases.{authorization, token, check, ShortStore, holding, slot, from, spent, countUp, Case, Row, row}
@@ -166,7 +166,7 @@ withdrawn time = holding time (spent (codeFrom 0 1000) ∷ [])
 
 -- "A call at 1600, then exchange with clock 1100: `invalid_grant`. A code issued next with clock 1100 expires at 2200."
 pub night : List Row
-unfolding rfcQuery every same indexOf splitOn grow count any indexWhere firstOr replaceFirst bigEndianBytes hexText hexDigit hexValue isHandleText unhex readHandle isBase64 base64Bytes groupBytes soundGroup sextet none decodeAfter firstByte extra isEscape plain wellFormed sound encode encodeByte isWellFormedForm pieceName pieceValue gives add valueIn formValue isMissing isRepeated onlyValue isOnce names bitFrom bitOf union readScope chosen spaced scopeText soundText soundId soundRedirect soundSecret soundField soundCommon soundPublic soundConfidential soundRecord recordSize recordsBehind soundRecords distinct fitRegistry recordOf registryOf sampleConfidential samplePublic sampleClients sampleRegistry freeSlot concat encodeSlot fitSlot wordText firstOf askedBy scopeAsked fits scopeGiven unlessRefused isBadQuery queryClient isBadClient isBadRedirect isSoundState isBadState isInvalidRequest isOtherType isInvalidScope codeAsked pageReasons redirectReasons readAuthorization separator stateText location codeParameter errorParameter locationText isInvalidForm lowerCase sameAnyCase credentials isBadHeader headerId headerSecret presentedId presentedSecret isUnclearId isImpostor callClient isInvalidClient formReasons readExchange readRefresh readGrant readToken errorReply refusalReply tokenReply refreshMember challenges refusedPlan codePlan exchangePlan refreshPlan planFor slotsBy checkSlots serveAuthorization replyText serveToken serveCheck
+unfolding rfcQuery every same indexOf splitOn grow count any indexWhere firstOr replaceFirst bigEndianBytes hexText hexDigit hexValue isHandleText unhex readHandle isBase64 base64Bytes groupBytes soundGroup sextet none decodeAfter firstByte extra isEscape plain wellFormed sound encode encodeByte isWellFormedForm pieceName pieceValue gives add valueIn formValue isMissing isRepeated onlyValue isOnce names bitFrom bitOf union readScope chosen spaced scopeText soundText soundId soundRedirect soundSecret soundField soundCommon soundPublic soundConfidential soundRecord recordSize recordsBehind soundRecords distinct fitRegistry recordOf registryOf sampleConfidential samplePublic sampleClients sampleRegistry freeSlot concat encodeSlot fitLink fitSlot wordText firstOf askedBy scopeAsked fits scopeGiven unlessRefused isBadQuery queryClient isBadClient isBadRedirect isSoundState isBadState challengeGiven isBadChallenge isInvalidRequest isOtherType isInvalidScope codeAsked pageReasons redirectReasons readAuthorization separator stateText location codeParameter errorParameter locationText isInvalidForm lowerCase sameAnyCase credentials isBadHeader headerId headerSecret presentedId presentedSecret isUnclearId isImpostor callClient isInvalidClient formReasons challengeAnswered readExchange readRefresh readGrant readToken errorReply refusalReply tokenReply refreshMember challenges refusedPlan codePlan exchangePlan refreshPlan planFor slotsBy checkSlots serveAuthorization replyText serveToken serveCheck
 night =
     row (authorized 1000 0 "000102030405060708090a0b0c0d0e0f10111213" (holding 0 []) (holding 1000 (codeFrom 0 1000 ∷ []))) refl
     ∷ row (checked "" 1600 notLive (holding 1000 (codeFrom 0 1000 ∷ [])) (holding 1600 (codeFrom 0 1000 ∷ []))) refl
@@ -182,7 +182,7 @@ night =
 
 -- two codes and their tokens, a refresh for less, and the check of each token
 pub day : List Row
-unfolding rfcQuery every same indexOf splitOn grow count any indexWhere firstOr replaceFirst bigEndianBytes hexText hexDigit hexValue isHandleText unhex readHandle isBase64 base64Bytes groupBytes soundGroup sextet none decodeAfter firstByte extra isEscape plain wellFormed sound encode encodeByte isWellFormedForm pieceName pieceValue gives add valueIn formValue isMissing isRepeated onlyValue isOnce names bitFrom bitOf union readScope chosen spaced scopeText soundText soundId soundRedirect soundSecret soundField soundCommon soundPublic soundConfidential soundRecord recordSize recordsBehind soundRecords distinct fitRegistry recordOf registryOf sampleConfidential samplePublic sampleClients sampleRegistry freeSlot concat encodeSlot fitSlot wordText firstOf askedBy scopeAsked fits scopeGiven unlessRefused isBadQuery queryClient isBadClient isBadRedirect isSoundState isBadState isInvalidRequest isOtherType isInvalidScope codeAsked pageReasons redirectReasons readAuthorization separator stateText location codeParameter errorParameter locationText isInvalidForm lowerCase sameAnyCase credentials isBadHeader headerId headerSecret presentedId presentedSecret isUnclearId isImpostor callClient isInvalidClient formReasons readExchange readRefresh readGrant readToken errorReply refusalReply tokenReply refreshMember challenges refusedPlan codePlan exchangePlan refreshPlan planFor slotsBy checkSlots serveAuthorization replyText serveToken serveCheck
+unfolding rfcQuery every same indexOf splitOn grow count any indexWhere firstOr replaceFirst bigEndianBytes hexText hexDigit hexValue isHandleText unhex readHandle isBase64 base64Bytes groupBytes soundGroup sextet none decodeAfter firstByte extra isEscape plain wellFormed sound encode encodeByte isWellFormedForm pieceName pieceValue gives add valueIn formValue isMissing isRepeated onlyValue isOnce names bitFrom bitOf union readScope chosen spaced scopeText soundText soundId soundRedirect soundSecret soundField soundCommon soundPublic soundConfidential soundRecord recordSize recordsBehind soundRecords distinct fitRegistry recordOf registryOf sampleConfidential samplePublic sampleClients sampleRegistry freeSlot concat encodeSlot fitLink fitSlot wordText firstOf askedBy scopeAsked fits scopeGiven unlessRefused isBadQuery queryClient isBadClient isBadRedirect isSoundState isBadState challengeGiven isBadChallenge isInvalidRequest isOtherType isInvalidScope codeAsked pageReasons redirectReasons readAuthorization separator stateText location codeParameter errorParameter locationText isInvalidForm lowerCase sameAnyCase credentials isBadHeader headerId headerSecret presentedId presentedSecret isUnclearId isImpostor callClient isInvalidClient formReasons challengeAnswered readExchange readRefresh readGrant readToken errorReply refusalReply tokenReply refreshMember challenges refusedPlan codePlan exchangePlan refreshPlan planFor slotsBy checkSlots serveAuthorization replyText serveToken serveCheck
 day =
     row (authorized 1000 100 "6465666768696a6b6c6d6e6f7071727374757677" (holding 1000 (codeFrom 0 1000 ∷ [])) (twoCodes 1000)) refl
     ∷ row (granted firstCode 1599 (twoCodes 1000) (exchanged 1599)) refl
@@ -198,7 +198,7 @@ day =
 
 -- "Spending a code when the wrong client, or the right one without its redirect, tries it."
 pub tries : List Row
-unfolding rfcQuery every same indexOf splitOn grow count any indexWhere firstOr replaceFirst bigEndianBytes hexText hexDigit hexValue isHandleText unhex readHandle isBase64 base64Bytes groupBytes soundGroup sextet none decodeAfter firstByte extra isEscape plain wellFormed sound encode encodeByte isWellFormedForm pieceName pieceValue gives add valueIn formValue isMissing isRepeated onlyValue isOnce names bitFrom bitOf union readScope chosen spaced scopeText soundText soundId soundRedirect soundSecret soundField soundCommon soundPublic soundConfidential soundRecord recordSize recordsBehind soundRecords distinct fitRegistry recordOf registryOf sampleConfidential samplePublic sampleClients sampleRegistry freeSlot concat encodeSlot fitSlot wordText firstOf askedBy scopeAsked fits scopeGiven unlessRefused isBadQuery queryClient isBadClient isBadRedirect isSoundState isBadState isInvalidRequest isOtherType isInvalidScope codeAsked pageReasons redirectReasons readAuthorization separator stateText location codeParameter errorParameter locationText isInvalidForm lowerCase sameAnyCase credentials isBadHeader headerId headerSecret presentedId presentedSecret isUnclearId isImpostor callClient isInvalidClient formReasons readExchange readRefresh readGrant readToken errorReply refusalReply tokenReply refreshMember challenges refusedPlan codePlan exchangePlan refreshPlan planFor slotsBy checkSlots serveAuthorization replyText serveToken serveCheck
+unfolding rfcQuery every same indexOf splitOn grow count any indexWhere firstOr replaceFirst bigEndianBytes hexText hexDigit hexValue isHandleText unhex readHandle isBase64 base64Bytes groupBytes soundGroup sextet none decodeAfter firstByte extra isEscape plain wellFormed sound encode encodeByte isWellFormedForm pieceName pieceValue gives add valueIn formValue isMissing isRepeated onlyValue isOnce names bitFrom bitOf union readScope chosen spaced scopeText soundText soundId soundRedirect soundSecret soundField soundCommon soundPublic soundConfidential soundRecord recordSize recordsBehind soundRecords distinct fitRegistry recordOf registryOf sampleConfidential samplePublic sampleClients sampleRegistry freeSlot concat encodeSlot fitLink fitSlot wordText firstOf askedBy scopeAsked fits scopeGiven unlessRefused isBadQuery queryClient isBadClient isBadRedirect isSoundState isBadState challengeGiven isBadChallenge isInvalidRequest isOtherType isInvalidScope codeAsked pageReasons redirectReasons readAuthorization separator stateText location codeParameter errorParameter locationText isInvalidForm lowerCase sameAnyCase credentials isBadHeader headerId headerSecret presentedId presentedSecret isUnclearId isImpostor callClient isInvalidClient formReasons challengeAnswered readExchange readRefresh readGrant readToken errorReply refusalReply tokenReply refreshMember challenges refusedPlan codePlan exchangePlan refreshPlan planFor slotsBy checkSlots serveAuthorization replyText serveToken serveCheck
 tries =
     row
     (invalidGrant "" barnShows 1100 (holding 1000 (codeFrom 0 1000 ∷ [])) (holding 1100 (codeFrom 0 1000 ∷ []))) refl
@@ -211,7 +211,7 @@ tries =
 
 -- "A code shown twice is a leak.": by another client it withdraws nothing, by its own all that came from it, the token of a refresh too
 pub leak : List Row
-unfolding rfcQuery every same indexOf splitOn grow count any indexWhere firstOr replaceFirst replaceAll bigEndianBytes hexText hexDigit hexValue isHandleText unhex readHandle isBase64 base64Bytes groupBytes soundGroup sextet none decodeAfter firstByte extra isEscape plain wellFormed sound encode encodeByte isWellFormedForm pieceName pieceValue gives add valueIn formValue isMissing isRepeated onlyValue isOnce names bitFrom bitOf union readScope chosen spaced scopeText soundText soundId soundRedirect soundSecret soundField soundCommon soundPublic soundConfidential soundRecord recordSize recordsBehind soundRecords distinct fitRegistry recordOf registryOf sampleConfidential samplePublic sampleClients sampleRegistry freeSlot concat encodeSlot fitSlot wordText firstOf askedBy scopeAsked fits scopeGiven unlessRefused isBadQuery queryClient isBadClient isBadRedirect isSoundState isBadState isInvalidRequest isOtherType isInvalidScope codeAsked pageReasons redirectReasons readAuthorization separator stateText location codeParameter errorParameter locationText isInvalidForm lowerCase sameAnyCase credentials isBadHeader headerId headerSecret presentedId presentedSecret isUnclearId isImpostor callClient isInvalidClient formReasons readExchange readRefresh readGrant readToken errorReply refusalReply tokenReply refreshMember challenges refusedPlan codePlan exchangePlan refreshPlan planFor slotsBy checkSlots serveAuthorization replyText serveToken serveCheck
+unfolding rfcQuery every same indexOf splitOn grow count any indexWhere firstOr replaceFirst replaceAll bigEndianBytes hexText hexDigit hexValue isHandleText unhex readHandle isBase64 base64Bytes groupBytes soundGroup sextet none decodeAfter firstByte extra isEscape plain wellFormed sound encode encodeByte isWellFormedForm pieceName pieceValue gives add valueIn formValue isMissing isRepeated onlyValue isOnce names bitFrom bitOf union readScope chosen spaced scopeText soundText soundId soundRedirect soundSecret soundField soundCommon soundPublic soundConfidential soundRecord recordSize recordsBehind soundRecords distinct fitRegistry recordOf registryOf sampleConfidential samplePublic sampleClients sampleRegistry freeSlot concat encodeSlot fitLink fitSlot wordText firstOf askedBy scopeAsked fits scopeGiven unlessRefused isBadQuery queryClient isBadClient isBadRedirect isSoundState isBadState challengeGiven isBadChallenge isInvalidRequest isOtherType isInvalidScope codeAsked pageReasons redirectReasons readAuthorization separator stateText location codeParameter errorParameter locationText isInvalidForm lowerCase sameAnyCase credentials isBadHeader headerId headerSecret presentedId presentedSecret isUnclearId isImpostor callClient isInvalidClient formReasons challengeAnswered readExchange readRefresh readGrant readToken errorReply refusalReply tokenReply refreshMember challenges refusedPlan codePlan exchangePlan refreshPlan planFor slotsBy checkSlots serveAuthorization replyText serveToken serveCheck
 leak =
     row (granted firstCode 1100 (holding 1000 (codeFrom 0 1000 ∷ [])) (pair 1100)) refl
     ∷ row (refreshedAt 1200 (pair 1100) (family 1200)) refl

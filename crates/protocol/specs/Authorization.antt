@@ -7,6 +7,8 @@ use lib.ListN.{length}
 use Rattle.octets.specs.Text.{bytes}
 use Rattle.octets.specs.Lists.{every, inClass}
 use Rattle.encoding.specs.Hex.{hexText}
+use Rattle.encoding.specs.Base64.{readDigest}
+use Rattle.encoding.specs.declared.DigestText.{DigestText}
 use Rattle.form_coding.specs.Coding.{encode}
 use Rattle.form.specs.Content.{Value, missing, once, repeated, isWellFormedForm, formValue, isMissing, isRepeated, onlyValue, isOnce}
 use Rattle.client_registry.specs.Registry.{Client}
@@ -24,7 +26,7 @@ use Rattle.protocol.specs.declared.Request.the-variants.{Code}
 use Rattle.protocol.specs.declared.Reading.{Reading}
 use Rattle.protocol.specs.Limits.{mostForm, mostState}
 use Rattle.protocol.specs.Refusals.{Reason, when, firstOf}
-use Rattle.protocol.specs.Requests.{scopeAsked, fits, scopeGiven, noFarm, presentingNone, unlessRefused}
+use Rattle.protocol.specs.Requests.{scopeAsked, fits, scopeGiven, noFarm, noHandle, noChallenge, unlessRefused}
 
 -- ---- reading the query
 
@@ -58,11 +60,27 @@ isBadState missing = false
 isBadState (once state) = not (isSoundState state)
 isBadState repeated = true
 
--- "`invalid_request` (response_type missing; response_type, scope or state repeated; state over 200 bytes or outside 20-7E)"
-unfoldable pub isInvalidRequest : List ℕ → Bool
-isInvalidRequest query =
+-- the challenge that is given: "43 base64url characters with zero spare bits". One that is missing or repeated is none
+unfoldable pub challengeGiven : Value → DigestText
+challengeGiven missing = noChallenge
+challengeGiven (once text) = readDigest text
+challengeGiven repeated = noChallenge
+
+-- "A challenge with another or no method, or a method without challenge, or a challenge that isn't 43 base64url characters with
+-- zero spare bits"; "Public clients must send one"; "Repeats are refused as for scope.": a repeated challenge is none that is
+-- given, and a repeated method is not once `S256`
+unfoldable pub isBadChallenge : Client → Value → Value → Bool
+isBadChallenge client challenge method =
+    cond (isMissing challenge) (not (isMissing method) || not (client .confidential))
+    (not (isOnce (bytes "S256") method) || not (challengeGiven challenge .valid))
+
+-- "`invalid_request` (response_type missing; response_type, scope or state repeated; state over 200 bytes or outside 20-7E)", and
+-- the faults of a challenge likewise
+unfoldable pub isInvalidRequest : Client → List ℕ → Bool
+isInvalidRequest client query =
     let type = formValue query (bytes "response_type") in
     isMissing type || isRepeated type || isRepeated (formValue query (bytes "scope")) || isBadState (formValue query (bytes "state"))
+    || isBadChallenge client (formValue query (bytes "code_challenge")) (formValue query (bytes "code_challenge_method"))
 
 -- "Response type `code` only."
 unfoldable pub isOtherType : List ℕ → Bool
@@ -101,17 +119,24 @@ pageReasons clients query =
 
 unfoldable pub redirectReasons : Client → List ℕ → ℕ → ℕ → List Reason
 redirectReasons client query decision farm =
-    when (isInvalidRequest query) (Redirect InvalidRequest)
+    when (isInvalidRequest client query) (Redirect InvalidRequest)
     ∷ when (isOtherType query) (Redirect UnsupportedResponseType)
     ∷ when (isInvalidScope client query) (Redirect InvalidScope)
     ∷ when (isDenied decision farm) (Redirect AccessDenied)
     ∷ []
 
+-- the reading of a query that is not refused
+abbrev pub codeReading : List Client → List ℕ → ℕ → Reading
+codeReading clients query farm = record {
+  request = Code (codeAsked clients query farm);
+  presented = noHandle;
+  challenge = challengeGiven (formValue query (bytes "code_challenge"));
+}
+
 unfoldable pub readAuthorization : List Client → List ℕ → ℕ → ℕ → Reading
 readAuthorization clients query decision farm =
     let client = clientAt clients (queryClient clients query) in
-    unlessRefused (firstOf (pageReasons clients query ++ redirectReasons client query decision farm))
-    (presentingNone (Code (codeAsked clients query farm)))
+    unlessRefused (firstOf (pageReasons clients query ++ redirectReasons client query decision farm)) (codeReading clients query farm)
 
 -- ---- writing the location
 

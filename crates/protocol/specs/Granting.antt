@@ -7,10 +7,11 @@ use mathlib.Core.List.{List, [], _∷_, _++_}
 use lib.Dec.{leb, eqb}
 use lib.ListN.{take, drop}
 use Rattle.octets.specs.Lists.{same}
+use Rattle.encoding.specs.declared.DigestText.{DigestText}
 use Rattle.encoding.specs.declared.HandleText.{HandleText}
 use Rattle.token_store.specs.Layout.{handleSize}
 use Rattle.octets.specs.Search.{count, any, firstOr, replaceFirst}
-use Rattle.token_store.specs.Store.{kindCode, kindBoundCode, kindAccess, kindRefresh, isBoundCode, isLive, isVacant, holds, soughtKey, noOrigin, freeSlot, spentCode, withoutTokens, lifetimeOf, issue}
+use Rattle.token_store.specs.Store.{kindAccess, kindRefresh, codeKind, isBoundCode, isChallenged, isLive, isVacant, holds, soughtKey, linkTo, originOf, freeSlot, spentCode, withoutTokens, lifetimeOf, issue}
 use Rattle.token_store.specs.declared.Slot.{Slot}
 use Rattle.token_store.specs.declared.Sought.{Sought}
 use Rattle.token_store.specs.declared.Sought.the-variants.{Code as soughtCode, Spent as soughtSpent, Access as soughtAccess, Refresh as soughtRefresh}
@@ -42,8 +43,7 @@ firstHandle random = take handleSize random
 abbrev pub secondHandle : List ℕ → List ℕ
 secondHandle random = take handleSize (drop handleSize random)
 
--- "A look-up takes the lowest slot of the right kind (for a code, 1 or 2) and handle"; a free slot where there is none,
--- which is never live
+-- "A look-up takes the lowest slot of the right kind and handle"; a free slot where there is none, which is never live
 abbrev pub shownSlot : Sought → HandleText → List Slot → Slot
 shownSlot sought presented slots = firstOr freeSlot (soughtKey sought presented) slots
 
@@ -68,6 +68,10 @@ anyTaken first second slots = isTaken first slots || isTaken second slots || sam
 abbrev pub isOwn : ℕ → ℕ → Slot → Bool
 isOwn t client s = isLive t s && eqb (s .client) client
 
+-- "An exchange whose verifier is missing, malformed .. or of another digest"; "a verifier for a code without challenge .. is ignored"
+abbrev pub isUnverified : DigestText → Slot → Bool
+isUnverified answered code = isChallenged code && not (answered .valid && same (answered .bytes) (code .link))
+
 -- "the same client, authenticated, presents a live spent code (sought only where no unspent code has its handle)": of the
 -- spent codes with its handle the lowest counts
 abbrev pub isShownAgain : ℕ → ℕ → HandleText → List Slot → Bool
@@ -78,11 +82,11 @@ isShownAgain t client presented slots =
 abbrev pub refusedSlots : ℕ → ℕ → HandleText → List Slot → List Slot
 refusedSlots t client presented slots = cond (isShownAgain t client presented slots) (withoutTokens (presented .bytes) slots) slots
 
--- "A code holds its client, the farm the owner allowed and the scope granted"; "Expiry is T plus 600 (code) .."; the origin is
--- "zero in codes"
-abbrev pub newCode : ℕ → List ℕ → CodeRequest → Slot
-newCode t handle r =
-    let kind = cond (r .bound) kindBoundCode kindCode in
+-- "A code holds its client, the farm the owner allowed and the scope granted"; "Expiry is T plus 600 (code) .."; "Codes with a
+-- challenge are kinds 6 and 7 (without and with bound redirect) and hold its 32 bytes", which are zero where there is none
+abbrev pub newCode : ℕ → List ℕ → DigestText → CodeRequest → Slot
+newCode t handle challenge r =
+    let kind = codeKind (r .bound) (challenge .valid) in
     record {
       kind = kind;
       handle = handle;
@@ -90,7 +94,7 @@ newCode t handle r =
       farm = r .farm;
       scope = r .scope;
       expiry = t + lifetimeOf kind;
-      origin = noOrigin;
+      link = challenge .bytes;
     }
 
 -- "a token takes client and farm, and its scope unless a refresh asks for less, from the code or refresh token that it
@@ -103,7 +107,7 @@ tokenOn shown origin t kind handle scope = record {
   farm = shown .farm;
   scope = scope;
   expiry = t + lifetimeOf kind;
-  origin = origin;
+  link = linkTo origin;
 }
 
 -- an access token of the client for itself. "Such tokens carry farm 0"; "tokens of Wish 1 record their own" handle
@@ -115,7 +119,7 @@ clientToken t handle r = record {
   farm = noFarm;
   scope = r .scope;
   expiry = t + lifetimeOf kindAccess;
-  origin = handle;
+  link = linkTo handle;
 }
 
 -- ---- plans
@@ -162,16 +166,18 @@ module _ (t : ℕ) (slots : List Slot) (random : List ℕ) where
   refusedPlan refusal = record { reasons = when true refusal ∷ []; granted = slots; denied = slots; scope = 0; bringsRefresh = false }
 
   -- "`temporarily_unavailable` (no slot), `server_error` (random bytes equal to the handle of any slot in use, run out or not)"
-  unfoldable pub codePlan : CodeRequest → Plan
-  codePlan r = singlePlan t slots (Redirect TemporarilyUnavailable) (Redirect ServerError) (newCode t (firstHandle random) r)
+  unfoldable pub codePlan : DigestText → CodeRequest → Plan
+  codePlan challenge r =
+      singlePlan t slots (Redirect TemporarilyUnavailable) (Redirect ServerError) (newCode t (firstHandle random) challenge r)
 
-  -- "`invalid_grant` (not found, run out, other client; for kind 2, redirect_uri missing or not equal to the registered one)
-  -- .. Status 503, empty: fewer slots free or run out than needed. Status 500, empty: a handle to be issued equals that of
+  -- "`invalid_grant` (not found, run out, other client; for kind 2, redirect_uri missing or not equal to the registered one)", for
+  -- kind 7 likewise; "An exchange whose verifier is missing, malformed .. or of another digest is `invalid_grant` and spends nothing"
+  -- .. "Status 503, empty: fewer slots free or run out than needed. Status 500, empty: a handle to be issued equals that of
   -- any slot in use, or two to be issued are equal." An exchange keeps its code as spent, then "issues access (first 20
   -- random bytes) and refresh (last 20)"; "an exchange's own slot is no longer free for 503". Of a code shown again "the answer is
   -- still `invalid_grant`, redirect not looked at, and every token with that origin is cleared": it is not found among the unspent
-  unfoldable pub exchangePlan : HandleText → ExchangeRequest → Plan
-  exchangePlan presented r =
+  unfoldable pub exchangePlan : HandleText → DigestText → ExchangeRequest → Plan
+  exchangePlan presented answered r =
       let code = shownSlot soughtCode presented slots in
       let access = tokenOn code (code .handle) t kindAccess (firstHandle random) (code .scope) in
       let refresh = tokenOn code (code .handle) t kindRefresh (secondHandle random) (code .scope) in
@@ -179,6 +185,7 @@ module _ (t : ℕ) (slots : List Slot) (random : List ℕ) where
         reasons =
             when (not (isOwn t (r .client) code)) (Token InvalidGrant)
             ∷ when (isBoundCode code && not (r .again)) (Token InvalidGrant)
+            ∷ when (isUnverified answered code) (Token InvalidGrant)
             ∷ when (not (leb 2 (room t slots))) (Failed NoRoom)
             ∷ when (anyTaken (firstHandle random) (secondHandle random) slots) (Failed Clash)
             ∷ [];
@@ -196,21 +203,21 @@ module _ (t : ℕ) (slots : List Slot) (random : List ℕ) where
       let token = shownSlot soughtRefresh presented slots in
       afterReasons
       (when (not (isOwn t (r .client) token)) (Token InvalidGrant) ∷ when (not (fits (r .scope) (token .scope))) (Token InvalidScope) ∷ [])
-      (accessPlan t slots (tokenOn token (token .origin) t kindAccess (firstHandle random) (scopeGiven (r .scope) (token .scope))))
+      (accessPlan t slots (tokenOn token (originOf token) t kindAccess (firstHandle random) (scopeGiven (r .scope) (token .scope))))
 
   -- "no refresh token, one slot"
   unfoldable pub credentialsPlan : CredentialsRequest → Plan
   credentialsPlan r = accessPlan t slots (clientToken t (firstHandle random) r)
 
-  unfoldable pub planFor : HandleText → Request → Plan
-  planFor presented (Refused refusal) = refusedPlan refusal
-  planFor presented (Code r) = codePlan r
-  planFor presented (Exchange r) = exchangePlan presented r
-  planFor presented (Refresh r) = refreshPlan presented r
-  planFor presented (Credentials r) = credentialsPlan r
+  unfoldable pub planFor : HandleText → DigestText → Request → Plan
+  planFor presented challenge (Refused refusal) = refusedPlan refusal
+  planFor presented challenge (Code r) = codePlan challenge r
+  planFor presented challenge (Exchange r) = exchangePlan presented challenge r
+  planFor presented challenge (Refresh r) = refreshPlan presented r
+  planFor presented challenge (Credentials r) = credentialsPlan r
 
   abbrev pub planOf : Reading → Plan
-  planOf reading = planFor (reading .presented) (reading .request)
+  planOf reading = planFor (reading .presented) (reading .challenge) (reading .request)
 
 -- ---- what is decided, and what that leaves: "a refusal past 4 changes no ledger byte but the mark", but for the one of a code
 -- that is shown again

@@ -14,6 +14,13 @@ mostHeader = 512
 abbrev pub mostState : ℕ
 mostState = 200
 
+-- "43 to 128 unreserved characters"
+abbrev pub leastVerifier : ℕ
+leastVerifier = 43
+
+abbrev pub mostVerifier : ℕ
+mostVerifier = 128
+
 -- "output below 1,024"
 abbrev pub leastOutput : ℕ
 leastOutput = 1024

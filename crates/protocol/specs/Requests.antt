@@ -3,13 +3,14 @@
 use Prim.Native.Nat.{ℕ}
 use mathlib.Core.Bool.{Bool, true, false}
 use lib.ListN.{replicate}
+use Rattle.encoding.specs.declared.DigestText.{DigestText}
 use Rattle.encoding.specs.declared.HandleText.{HandleText}
 use Rattle.form.specs.Content.{Value, missing, once, repeated}
 use Rattle.scope.specs.Set.{isWithin, ofByte}
 use Rattle.scope.specs.Value.{readScope}
 use Rattle.scope.specs.declared.ScopeValue.{ScopeValue}
 use Rattle.scope.specs.declared.ScopeValue.the-variants.{Names, Invalid}
-use Rattle.token_store.specs.Layout.{handleSize}
+use Rattle.token_store.specs.Layout.{handleSize, linkSize}
 use Rattle.protocol.specs.declared.Refusal.{Refusal}
 use Rattle.protocol.specs.declared.Decision.{Decision}
 use Rattle.protocol.specs.declared.Decision.the-variants.{Grant, Refuse}
@@ -54,8 +55,12 @@ noFarm = 0
 abbrev pub noHandle : HandleText
 noHandle = record { valid = false; bytes = replicate handleSize 0 }
 
+-- a text that is no digest: the challenge of a call that has none
+abbrev pub noChallenge : DigestText
+noChallenge = record { valid = false; bytes = replicate linkSize 0 }
+
 abbrev pub presentingNone : Request → Reading
-presentingNone request = record { request = request; presented = noHandle }
+presentingNone request = record { request = request; presented = noHandle; challenge = noChallenge }
 
 abbrev pub refusedReading : Refusal → Reading
 refusedReading refusal = presentingNone (Refused refusal)

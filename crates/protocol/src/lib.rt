@@ -2,6 +2,7 @@
 //
 // The definitions say, from raw bytes and numbers alone, what each endpoint answers, writes to the output and leaves
 // in the token store, for every input. The endpoints' crates are proved against them.
+use encoding::DigestText;
 use encoding::HandleText;
 
 pub mod limits;
@@ -99,11 +100,13 @@ pub enum Request {
     Credentials(CredentialsRequest),
 }
 
-// A call as it was read: its request, and the code or refresh token that it presents. A request that presents none has
-// a text that is no handle.
+// A call as it was read: its request; the code or refresh token that it presents; and the code challenge (RFC 7636) that a
+// code is asked for with, or that an exchange answers by its verifier. A request that presents no code or token has a text
+// that is no handle, and one without a challenge a text that is no digest.
 pub struct Reading {
     pub request: Request,
     pub presented: HandleText,
+    pub challenge: DigestText,
 }
 
 // ---- answers

@@ -10,6 +10,11 @@ pub const MOST_HEADER: usize = 512;
 // The most bytes of a state that is sent back.
 pub const MOST_STATE: usize = 200;
 
+// The fewest and the most characters of a code verifier.
+pub const LEAST_VERIFIER: usize = 43;
+
+pub const MOST_VERIFIER: usize = 128;
+
 // The least output that a call must bring: no location and no reply is longer.
 pub const LEAST_OUTPUT: usize = 1024;
 

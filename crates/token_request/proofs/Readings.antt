@@ -13,6 +13,7 @@ use lib.ListN.{getD}
 use Rattle.octets.specs.Text.{bytes}
 use Rattle.octets.specs.Lists.{every, same, grow, splitOn}
 use Rattle.encoding.specs.Hex.{readHandle}
+use Rattle.encoding.specs.declared.DigestText.{DigestText}
 use Rattle.encoding.specs.declared.HandleText.{HandleText}
 use Rattle.form.specs.Content.{pieces, Value, isMissing, onlyValue, isOnce}
 use Rattle.form.specs.Places.{unseen, viewOf, Stands, distinct}
@@ -26,10 +27,10 @@ use Rattle.protocol.specs.declared.Refusal.the-variants.{Token}
 use Rattle.protocol.specs.declared.Request.the-variants.{Exchange, Refresh, Credentials}
 use Rattle.protocol.specs.declared.ScopeAsked.{ScopeAsked}
 use Rattle.protocol.specs.Refusals.{firstOf}
-use Rattle.protocol.specs.Requests.{scopeAsked, fits, scopeGiven, presentingNone, refusedReading, unlessRefused}
+use Rattle.protocol.specs.Requests.{scopeAsked, fits, scopeGiven, noChallenge, presentingNone, refusedReading, unlessRefused}
 use Rattle.protocol.specs.Authorization.{isInvalidScope}
 use Rattle.protocol.specs.ClientForms.{formReasons}
-use Rattle.protocol.specs.Token.{tokenNames, readExchange, readRefresh, readCredentials, readGrant, readToken}
+use Rattle.protocol.specs.Token.{tokenNames, challengeAnswered, readExchange, readRefresh, readCredentials, readGrant, readToken}
 use Rattle.client_forms.specs.declared.Caller.the-variants.{Client, Refused}
 use Rattle.client_forms.specs.declared.ClientForm.{ClientForm}
 use Rattle.client_forms.specs.Forms.{ClientNames, decisionOn, LetIn, Reads}
@@ -38,7 +39,7 @@ use Rattle.client_forms.specs.Forms.{ClientNames, decisionOn, LetIn, Reads}
 
 -- as the code lists them
 abbrev pub namesText : List ℕ
-namesText = bytes "client_id&client_secret&grant_type&code&redirect_uri&refresh_token&scope"
+namesText = bytes "client_id&client_secret&grant_type&code&redirect_uri&refresh_token&scope&code_verifier"
 
 names-parted : pieces namesText ≡ tokenNames
 unfolding splitOn grow
@@ -79,9 +80,10 @@ module _ {body : List ℕ} {places : List Place} (s : Stands tokenNames body pla
 
   pub token-there : isMissing (said 5) ≡ false → (p : HandleText) → p ≡ readHandle (onlyValue (said 5)) → (scope : ScopeAsked)
       → scope ≡ scopeAsked (said 6)
-      → record { request = Refresh (record { client = number; scope = scope }); presented = p } ≡ readRefresh number body
+      → (challenge : DigestText) → challenge ≡ noChallenge
+      → record { request = Refresh (record { client = number; scope = scope }); presented = p; challenge = challenge } ≡ readRefresh number body
   unfolding readRefresh unlessRefused firstOf
-  token-there e p ep scope es = rw (ep, es, s .at 6 (lit< tt) .value, s .at 5 (lit< tt) .value, rw (s .at 5 (lit< tt) .value) at e)
+  token-there e p ep scope es challenge ec = rw (ep, es, ec, s .at 6 (lit< tt) .value, s .at 5 (lit< tt) .value, rw (s .at 5 (lit< tt) .value) at e)
 
   module _ (clients : List RegisteredClient) where
     pub code-missing : isMissing (said 3) ≡ true → refusedReading (Token InvalidRequest) ≡ readExchange clients number body
@@ -89,10 +91,12 @@ module _ {body : List ℕ} {places : List Place} (s : Stands tokenNames body pla
     code-missing e = rw (rw (s .at 3 (lit< tt) .value) at e)
 
     pub code-there : isMissing (said 3) ≡ false → (p : HandleText) → p ≡ readHandle (onlyValue (said 3)) → (again : Bool)
-        → again ≡ isOnce (clientAt clients number .redirect) (said 4)
-        → record { request = Exchange (record { client = number; again = again }); presented = p } ≡ readExchange clients number body
+        → again ≡ isOnce (clientAt clients number .redirect) (said 4) → (challenge : DigestText) → challenge ≡ challengeAnswered (said 7)
+        → record { request = Exchange (record { client = number; again = again }); presented = p; challenge = challenge }
+        ≡ readExchange clients number body
     unfolding readExchange unlessRefused firstOf
-    code-there e p ep again ea = rw (ep, ea, s .at 4 (lit< tt) .value, s .at 3 (lit< tt) .value, rw (s .at 3 (lit< tt) .value) at e)
+    code-there e p ep again ea challenge ec =
+        rw (ep, ea, ec, s .at 4 (lit< tt) .value, s .at 7 (lit< tt) .value, s .at 3 (lit< tt) .value, rw (s .at 3 (lit< tt) .value) at e)
 
     -- ---- for itself
 

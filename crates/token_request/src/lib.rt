@@ -1,8 +1,10 @@
 // token_request: what a call to the token endpoint asks for, read from its arguments and the registry alone
-// (RFC 6749, sections 4.1.3, 4.4.2 and 6).
+// (RFC 6749, sections 4.1.3, 4.4.2 and 6; RFC 7636, section 4.5).
 use client_forms::Caller;
 use client_forms::NEEDED;
 use client_registry::Entry;
+use encoding::DIGEST_SIZE;
+use encoding::DigestText;
 use encoding::HANDLE_SIZE;
 use encoding::HandleText;
 use form::PLACES;
@@ -21,7 +23,7 @@ ghost use lib.ListN.{length};
 ghost use Rattle.form.specs.Places.{Stands};
 ghost use Rattle.client_registry.specs.Registry.{clientsOf, fitRegistry};
 ghost use Rattle.protocol.specs.Limits.{mostForm};
-ghost use Rattle.protocol.specs.Requests.{presentingNone, refusedReading};
+ghost use Rattle.protocol.specs.Requests.{noChallenge, presentingNone, refusedReading};
 ghost use Rattle.protocol.specs.Token.{tokenNames, readExchange, readRefresh, readCredentials, readGrant, readToken};
 ghost use Rattle.client_forms.specs.Forms.{LetIn};
 
@@ -36,6 +38,18 @@ const REFRESH_TOKEN: usize = 5;
 
 const SCOPE: usize = 6;
 
+const CODE_VERIFIER: usize = 7;
+
+// The challenge of a request that answers none.
+fn no_challenge() -> DigestText
+    ensures { λ r. ⌜ r ≡ noChallenge ⌝ }
+{
+    DigestText {
+        valid: false,
+        bytes: [0u8; DIGEST_SIZE],
+    }
+}
+
 // A request that presents no code or token.
 fn presenting_none(request: Request) -> Reading
     ensures { λ r. ⌜ r ≡ presentingNone request ⌝ }
@@ -46,6 +60,7 @@ fn presenting_none(request: Request) -> Reading
             valid: false,
             bytes: [0u8; HANDLE_SIZE],
         },
+        challenge: no_challenge(),
     }
 }
 
@@ -67,16 +82,19 @@ fn read_exchange(registry: &[u8], body: &[u8], places: [Place; PLACES], client: 
     }
     let presented = parameters::handle_presented(body, code);
     let again = form::is_once(body, redirect, client_registry::redirect(registry, client));
+    let verifier = places[CODE_VERIFIER];
+    let challenge = parameters::challenge_answered(body, verifier);
     Reading {
         request: Request::Exchange(ExchangeRequest {
             client: client.number,
             again,
         }),
         presented,
+        challenge,
     }
 }
 
-// A request for an access token on a refresh token.
+// A request for an access token on a refresh token. Its verifier is not looked at.
 fn read_refresh(body: &[u8], places: [Place; PLACES], client: Entry) -> Reading
     requires { ⌜ (length (now body) ≤ mostForm) × Stands tokenNames (now body) places ⌝ }
     ensures { λ r. ⌜ r ≡ readRefresh (client .number) (now (body .entry)) ⌝ }
@@ -94,6 +112,7 @@ fn read_refresh(body: &[u8], places: [Place; PLACES], client: Entry) -> Reading
             scope,
         }),
         presented,
+        challenge: no_challenge(),
     }
 }
 
@@ -144,7 +163,7 @@ pub fn read(registry: &[u8], header: &[u8], body: &[u8]) -> Reading
         registry,
         header,
         body,
-        b"client_id&client_secret&grant_type&code&redirect_uri&refresh_token&scope",
+        b"client_id&client_secret&grant_type&code&redirect_uri&refresh_token&scope&code_verifier",
     );
     let caller = form.caller;
     let places = form.places;

@@ -8,16 +8,18 @@
 use mathlib.Core.Path.{_≡_, sym, ap, _∙_, subst}
 use mathlib.Core.Bool.{Bool, true, false, not, _&&_, _||_, and-true, and-false}
 use mathlib.Core.List.{List}
-use Prim.Native.Nat.{ℕ, _^_, _≤_, _<_}
+use Prim.Native.Nat.{ℕ, _+_, _-_, _^_, _≤_, _<_}
 use native.Mathlib.Omega.{arith}
 use lib.Dec.{eqb, leb, ltb}
-use lib.ListN.{length, getD}
+use lib.ListN.{length, take, drop, getD}
+use lib.Seq.{drop-drop}
 use borrow.Author.Tests.{lt-ltb, le-leb, lt-leb, eq-eqb, ne-eqb, eqb-true, eqb-false, leb-true, ltb-true, not-true}
 use Rattle.octets.specs.Lists.{Bytes, every, isZero, part}
 use Rattle.octets.proofs.Booleans.{and-left, and-right, and-three}
-use Rattle.token_store.specs.Layout.{timeSize, slotCount, slotSize, storeSize, latestTime, handleSize, atClient, atScope, atOrigin}
-use Rattle.token_store.specs.Store.{Store, SlotsFit, kindFree, kindLast, isUsed, isToken, isTokenKind, encodeSlot, decodeSlot, decode, encode, freeSlot}
-use Rattle.token_store.specs.Fit.{fitSlot, fitStore}
+use Rattle.octets.proofs.Lists.{drop-take}
+use Rattle.token_store.specs.Layout.{timeSize, slotCount, slotSize, storeSize, latestTime, handleSize, linkSize, atClient, atScope, atLink}
+use Rattle.token_store.specs.Store.{Store, SlotsFit, kindFree, kindLast, isUsed, isTokenKind, isChallengedKind, encodeSlot, decodeSlot, decode, encode, freeSlot}
+use Rattle.token_store.specs.Fit.{fitLink, fitSlot, fitStore}
 use Rattle.token_store.specs.declared.Slot.{Slot}
 use Rattle.token_store.proofs.Slots.{slot-forth, slotIn, slot-alone, free-bytes, free-unused}
 use Rattle.token_store.proofs.Codec.{length-encode, decode-encode}
@@ -29,12 +31,12 @@ pub record UsedFit (clients : ℕ) (s : Slot) : Type 0 where
   pub kind : s .kind ≤ kindLast
   pub client : s .client < clients
   pub scope : 0 < s .scope
-  pub origin : (isToken s || every isZero (s .origin)) ≡ true
+  pub link : fitLink s ≡ true
 
 module _ (clients : ℕ) (s : Slot) where
   fit-in-use : isUsed s ≡ true
       → fitSlot clients s
-      ≡ (leb (s .kind) kindLast && ltb (s .client) clients && not (eqb (s .scope) 0) && (isToken s || every isZero (s .origin)))
+      ≡ (leb (s .kind) kindLast && ltb (s .client) clients && not (eqb (s .scope) 0) && fitLink s)
   unfolding fitSlot
   fit-in-use u = rw u
 
@@ -45,16 +47,15 @@ module _ (clients : ℕ) (s : Slot) where
   pub fit-used : isUsed s ≡ true → fitSlot clients s ≡ true → UsedFit clients s
   fit-used u e =
       let empty : Bool = eqb (s .scope) 0 in
-      let origin : Bool = isToken s || every isZero (s .origin) in
       let fit = sym (fit-in-use u) ∙ e in
       let before = leb (s .kind) kindLast && ltb (s .client) clients && not empty in
-      let h = and-three (leb (s .kind) kindLast) (ltb (s .client) clients) (not empty) (and-left before origin fit) in
+      let h = and-three (leb (s .kind) kindLast) (ltb (s .client) clients) (not empty) (and-left before (fitLink s) fit) in
       let some = eqb-false (s .scope) 0 (not-true empty (h .2)) in
       record {
         kind = leb-true (s .kind) kindLast (h .0);
         client = ltb-true (s .client) clients (h .1);
         scope = omega arith;
-        origin = and-right before origin fit;
+        link = and-right before (fitLink s) fit;
       }
 
   pub used-fit : isUsed s ≡ true → UsedFit clients s → fitSlot clients s ≡ true
@@ -64,7 +65,7 @@ module _ (clients : ℕ) (s : Slot) where
         le-leb (s .kind) kindLast (w .kind),
         lt-ltb (s .client) clients (w .client),
         ne-eqb (s .scope) 0 (λ z. omega (arith, w .scope)),
-        w .origin,
+        w .link,
       )
 
 pub fit-free : (clients : ℕ) → fitSlot clients freeSlot ≡ true
@@ -80,20 +81,28 @@ module _ (clients : ℕ) (l : List ℕ) (size : length l ≡ slotSize) where
       ap (every isZero) (sym (slot-forth l size bytes))
       ∙ sym (fit-not-used clients (decodeSlot l) (rw (slot-alone l size) (ap not (eq-eqb (getD l 0 0) kindFree k))))
 
-  -- of any other kind: what is asked of all of them, and of the origin
-  abbrev all : Bool
-  all = leb (getD l 0 0) kindLast && ltb (getD l atClient 0) clients && not (eqb (getD l atScope 0) 0)
+  -- of any other kind
+  pub fit-in-use-bytes : (getD l 0 0 ≡ kindFree → ⊥)
+      → (leb (getD l 0 0) kindLast && ltb (getD l atClient 0) clients && not (eqb (getD l atScope 0) 0) && fitLink (decodeSlot l))
+      ≡ fitSlot clients (decodeSlot l)
+  fit-in-use-bytes n =
+      rw (slot-alone l size) (sym (fit-in-use clients (slotIn l 0) (ap not (ne-eqb (getD l 0 0) kindFree n))))
 
-  fit-kinds : (getD l 0 0 ≡ kindFree → ⊥)
-      → (all && (isTokenKind (getD l 0 0) || every isZero (part l atOrigin handleSize))) ≡ fitSlot clients (decodeSlot l)
-  fit-kinds n = sym (ap (fitSlot clients) (slot-alone l size) ∙ fit-in-use clients (slotIn l 0) (ap not (ne-eqb (getD l 0 0) kindFree n)))
+-- the link, each case that the code has: of a token what stands behind the origin, of any other kind all of it
+module _ (l : List ℕ) (size : length l ≡ slotSize) where
+  pub fit-link-token : isTokenKind (getD l 0 0) ≡ true
+      → every isZero (part l (atLink + handleSize) (linkSize - handleSize)) ≡ fitLink (decodeSlot l)
+  unfolding fitLink
+  fit-link-token t =
+      let rest : drop handleSize (part l atLink linkSize) ≡ part l (atLink + handleSize) (linkSize - handleSize) =
+      drop-take (drop atLink l) linkSize handleSize ∙ ap (λ (x : List ℕ). take (linkSize - handleSize) x) (drop-drop handleSize atLink l)
+      in
+      rw (slot-alone l size, t) (ap (every isZero) (sym rest))
 
-  pub fit-token : (getD l 0 0 ≡ kindFree → ⊥) → isTokenKind (getD l 0 0) ≡ true → all ≡ fitSlot clients (decodeSlot l)
-  fit-token n t = sym (and-true all) ∙ (rw t at (fit-kinds n))
-
-  pub fit-code : (getD l 0 0 ≡ kindFree → ⊥) → isTokenKind (getD l 0 0) ≡ false
-      → (all && every isZero (part l atOrigin handleSize)) ≡ fitSlot clients (decodeSlot l)
-  fit-code n t = rw t at (fit-kinds n)
+  pub fit-link-other : isTokenKind (getD l 0 0) ≡ false
+      → (isChallengedKind (getD l 0 0) || every isZero (part l atLink linkSize)) ≡ fitLink (decodeSlot l)
+  unfolding fitLink
+  fit-link-other t = rw (slot-alone l size, t)
 
 -- ---- a store
 

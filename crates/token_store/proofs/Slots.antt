@@ -7,7 +7,7 @@
 -- Assumes nothing.
 use mathlib.Core.Path.{_≡_, refl, sym, ap, _∙_, subst}
 use mathlib.Core.Bool.{Bool, true, false, not, _||_}
-use mathlib.Core.Logic.{_⊎_, inl, inr}
+use mathlib.Core.Logic.{_⊎_, inl, inr, ⊎-elim}
 use mathlib.Core.List.{List, [], _∷_, _++_, map, append-assoc, append-nil}
 use Prim.Native.Nat.{ℕ, suc, _+_, _^_, _≤_, _<_}
 use native.Mathlib.Nat.{add-zero}
@@ -24,8 +24,8 @@ use Rattle.octets.proofs.Searches.{every-each}
 use Rattle.octets.proofs.Stores.{sets-append}
 use Rattle.octets.proofs.BigEndian.{be-one, be-bytes, bytes-be, be-bound, be-bytes-one, length-be-bytes}
 use Rattle.encoding.specs.declared.HandleText.{HandleText}
-use Rattle.token_store.specs.Layout.{latestTime, handleSize, farmSize, expirySize, fieldSizes, slotSize, atHandle, atClient, atFarm, atScope, atExpiry, atOrigin}
-use Rattle.token_store.specs.Store.{SlotFits, cut, concat, fieldsOf, ofFields, encodeSlot, decodeSlot, freeSlot, kindCode, kindBoundCode, isUsed, lifetimes, lifetimeOf, isLive, holds, isSought, soughtKey, shows}
+use Rattle.token_store.specs.Layout.{latestTime, handleSize, farmSize, expirySize, linkSize, fieldSizes, slotSize, atHandle, atClient, atFarm, atScope, atExpiry, atLink}
+use Rattle.token_store.specs.Store.{SlotFits, cut, concat, fieldsOf, ofFields, encodeSlot, decodeSlot, freeSlot, kindCode, kindBoundCode, kindChallengedCode, kindBoundChallengedCode, isChallenged, kindFree, isUsed, lifetimes, lifetimeOf, isLive, holds, isSought, soughtKey, shows}
 use Rattle.token_store.specs.declared.Slot.{Slot}
 use Rattle.token_store.specs.declared.Sought.{Sought}
 use Rattle.token_store.specs.declared.Sought.the-variants.{Code, Spent, Access, Refresh}
@@ -36,7 +36,7 @@ use Rattle.token_store.proofs.Tables.{cut-from, cut-concat, concat-cut}
 pub slot-back : (s : Slot) → SlotFits s → decodeSlot (encodeSlot s) ≡ s
 unfolding decodeSlot encodeSlot
 slot-back s h =
-    let w : map length (fieldsOf s) ≡ fieldSizes = simp (length-be-bytes, h .handle, h .origin) in
+    let w : map length (fieldsOf s) ≡ fieldSizes = simp (length-be-bytes, h .handle, h .link) in
     let e : cut fieldSizes (concat (fieldsOf s)) ≡ fieldsOf s =
     subst (λ (ws : List ℕ). cut ws (concat (fieldsOf s)) ≡ fieldsOf s) w (cut-concat (fieldsOf s))
     in
@@ -48,12 +48,12 @@ slot-back s h =
       farm = be-bytes farmSize (s .farm) (h .farm) j;
       scope = be-bytes 1 (s .scope) (h .scope) j;
       expiry = be-bytes expirySize (s .expiry) (h .expiry) j;
-      origin = s .origin;
+      link = s .link;
     }
 
 pub length-slot : (s : Slot) → SlotFits s → length (encodeSlot s) ≡ slotSize
 unfolding encodeSlot concat
-length-slot s h = simp (length-append, length-be-bytes, h .handle, h .origin) (omega arith)
+length-slot s h = simp (length-append, length-be-bytes, h .handle, h .link) (omega arith)
 
 -- ---- where the fields lie
 
@@ -66,7 +66,7 @@ fieldsIn l =
     ∷ part l atFarm farmSize
     ∷ part l atScope 1
     ∷ part l atExpiry expirySize
-    ∷ part l atOrigin handleSize
+    ∷ part l atLink linkSize
     ∷ []
 
 cut-fields : (l : List ℕ) → cut fieldSizes l ≡ fieldsIn l
@@ -88,7 +88,7 @@ slotIn b at = record {
   farm = bigEndian (part b (at + atFarm) farmSize);
   scope = getD b (at + atScope) 0;
   expiry = bigEndian (part b (at + atExpiry) expirySize);
-  origin = part b (at + atOrigin) handleSize;
+  link = part b (at + atLink) linkSize;
 }
 
 pub slot-in : (b : List ℕ) (at : ℕ) → at + slotSize ≤ length b → decodeSlot (part b at slotSize) ≡ slotIn b at
@@ -101,7 +101,7 @@ slot-in b at fits =
       farm = bigEndian (field atFarm farmSize (omega arith) j);
       scope = byte atScope (omega arith) j;
       expiry = bigEndian (field atExpiry expirySize (omega arith) j);
-      origin = field atOrigin handleSize (omega arith) j;
+      link = field atLink linkSize (omega arith) j;
     }
   where
     field : (k n : ℕ) → k + n ≤ slotSize → part (part b at slotSize) k n ≡ part b (at + k) n
@@ -136,7 +136,7 @@ module _ (l : List ℕ) (size : length l ≡ slotSize) (bytes : Bytes l) where
       ∷ field-forth atFarm farmSize (omega arith) j
       ∷ field-forth atScope 1 (omega arith) j
       ∷ field-forth atExpiry expirySize (omega arith) j
-      ∷ part l atOrigin handleSize
+      ∷ part l atLink linkSize
       ∷ []
       in
       ap (λ (s : Slot). concat (fieldsOf s)) (slot-fields l) ∙ ap concat (e ∙ sym (cut-fields l))
@@ -156,7 +156,7 @@ module _ (l : List ℕ) (size : length l ≡ slotSize) (bytes : Bytes l) where
         farm = field-bound atFarm farmSize (omega arith);
         scope = field-bound atScope 1 (omega arith);
         expiry = field-bound atExpiry expirySize (omega arith);
-        origin = field-length atOrigin handleSize (omega arith);
+        link = field-length atLink linkSize (omega arith);
       })
 
 -- ---- the stores that write a slot are one store of the whole slot
@@ -170,7 +170,7 @@ module _ (b : List ℕ) (at : ℕ) (s : Slot) (fits : SlotFits s) (l₁ l₂ l�
       l₁ ≡ sets (set b at (s .kind)) (at + atHandle) (s .handle)
       → l₂ ≡ sets (set l₁ (at + atClient) (s .client)) (at + atFarm) (bigEndianBytes farmSize (s .farm))
       → l₃ ≡ sets (set l₂ (at + atScope) (s .scope)) (at + atExpiry) (bigEndianBytes expirySize (s .expiry))
-      → l₄ ≡ sets l₃ (at + atOrigin) (s .origin)
+      → l₄ ≡ sets l₃ (at + atLink) (s .link)
       → l₄ ≡ sets b at (encodeSlot s)
   unfolding encodeSlot concat
   store-slot e₁ e₂ e₃ e₄ =
@@ -186,7 +186,7 @@ module _ (b : List ℕ) (at : ℕ) (s : Slot) (fits : SlotFits s) (l₁ l₂ l�
       let n₂ : length u₂ ≡ atFarm = length-append u₁ (s .client ∷ []) ∙ omega arith in
       let n₃ : length u₃ ≡ atScope = length-append u₂ f ∙ omega (arith, length-be-bytes farmSize (s .farm)) in
       let n₄ : length u₄ ≡ atExpiry = length-append u₃ (s .scope ∷ []) ∙ omega arith in
-      let n₅ : length u₅ ≡ atOrigin = length-append u₄ x ∙ omega (arith, length-be-bytes expirySize (s .expiry)) in
+      let n₅ : length u₅ ≡ atLink = length-append u₄ x ∙ omega (arith, length-be-bytes expirySize (s .expiry)) in
       let p₁ : l₁ ≡ sets b at u₁ = e₁ ∙ glue b at (at + atHandle) (s .kind ∷ []) (s .handle) refl in
       let p₂ : l₂ ≡ sets b at u₃ =
       e₂ ∙ rw (p₁, glue b at (at + atClient) u₁ (s .client ∷ []) (omega arith)) (glue b at (at + atFarm) u₂ f (omega arith))
@@ -194,7 +194,7 @@ module _ (b : List ℕ) (at : ℕ) (s : Slot) (fits : SlotFits s) (l₁ l₂ l�
       let p₃ : l₃ ≡ sets b at u₅ =
       e₃ ∙ rw (p₂, glue b at (at + atScope) u₃ (s .scope ∷ []) (omega arith)) (glue b at (at + atExpiry) u₄ x (omega arith))
       in
-      let p₄ : l₄ ≡ sets b at (u₅ ++ s .origin) = e₄ ∙ rw p₃ (glue b at (at + atOrigin) u₅ (s .origin) (omega arith)) in
+      let p₄ : l₄ ≡ sets b at (u₅ ++ s .link) = e₄ ∙ rw p₃ (glue b at (at + atLink) u₅ (s .link) (omega arith)) in
       p₄
       ∙ rw (be-bytes-one (s .kind) (fits .kind), be-bytes-one (s .client) (fits .client), be-bytes-one (s .scope) (fits .scope))
       (simp (append-assoc, append-nil))
@@ -218,7 +218,7 @@ free-fits = record {
   farm = lit< tt;
   scope = lit< tt;
   expiry = lit< tt;
-  origin = refl;
+  link = refl;
 }
 
 pub free-unused : isUsed freeSlot ≡ false
@@ -231,26 +231,29 @@ free-dead t = refl
 
 -- ---- a slot that is sought is in use
 
+-- a number that is one of two fails a test that both fail
+either-fails : (f : ℕ → Bool) (j k : ℕ) → f j ≡ false → f k ≡ false → (n : ℕ) → (eqb n j || eqb n k) ≡ true → f n ≡ false
+either-fails f j k a b n e = by (or-cases (eqb n j) (eqb n k) e)
+  where
+    by : (eqb n j ≡ true) ⊎ (eqb n k ≡ true) → f n ≡ false
+    by (inl q) = rw (eqb-true n j q) a
+    by (inr q) = rw (eqb-true n k q) b
+
+-- a code's kind fails a test that all its kinds fail
+pub code-fails : (f : ℕ → Bool) → f kindCode ≡ false → f kindBoundCode ≡ false → f kindChallengedCode ≡ false → f kindBoundChallengedCode ≡ false
+    → (s : Slot) → isSought Code s ≡ true → f (s .kind) ≡ false
+code-fails f a b c d s e =
+    ⊎-elim (either-fails f kindCode kindBoundCode a b (s .kind)) (either-fails f kindChallengedCode kindBoundChallengedCode c d (s .kind))
+    (or-cases (eqb (s .kind) kindCode || eqb (s .kind) kindBoundCode) (isChallenged s) e)
+
 used : (k n : ℕ) → eqb k (suc n) ≡ true → not (eqb k 0) ≡ true
 used k n e = let q = eqb-true k (suc n) e in rw (ne-eqb k 0 (λ z. omega arith))
 
 pub sought-used : (q : Sought) (s : Slot) → isSought q s ≡ true → isUsed s ≡ true
-sought-used Code s e = by (eqb (s .kind) kindCode) refl e
-  where
-    by : (t : Bool) → eqb (s .kind) kindCode ≡ t → (t || eqb (s .kind) kindBoundCode) ≡ true → isUsed s ≡ true
-    by true q f = used (s .kind) 0 q
-    by false q f = used (s .kind) 1 f
+sought-used Code s e = ap not (code-fails (λ k. eqb k kindFree) refl refl refl refl s e)
 sought-used Spent s e = used (s .kind) 4 e
 sought-used Access s e = used (s .kind) 2 e
 sought-used Refresh s e = used (s .kind) 3 e
-
--- a code's kind fails a test that both its kinds fail
-pub code-fails : (f : ℕ → Bool) → f kindCode ≡ false → f kindBoundCode ≡ false → (s : Slot) → isSought Code s ≡ true → f (s .kind) ≡ false
-code-fails f a b s e = by (or-cases (eqb (s .kind) kindCode) (eqb (s .kind) kindBoundCode) e)
-  where
-    by : (eqb (s .kind) kindCode ≡ true) ⊎ (eqb (s .kind) kindBoundCode ≡ true) → f (s .kind) ≡ false
-    by (inl q) = rw (eqb-true (s .kind) kindCode q) a
-    by (inr q) = rw (eqb-true (s .kind) kindBoundCode q) b
 
 -- a slot that a look-up takes is in use and has the handle presented
 pub key-holds : (q : Sought) (p : HandleText) (s : Slot) → soughtKey q p s ≡ true → holds (p .bytes) s ≡ true

@@ -1,8 +1,8 @@
 -- Where everything lies in a store. No other file of specs/ or proofs/ names one of these numbers.
 --
 -- "First the mark, 8 bytes, big-endian, at most 2^40; then 512 slots": "kind, handle 20, client number 1, farm 4, scope
--- set 1, expiry 8 (farm and expiry big-endian)". "Slots grow to 55 bytes, the 20 new ones last", which are a token's
--- origin, "and the ledger to 28,168."
+-- set 1, expiry 8 (farm and expiry big-endian)"; then the link: a token's origin, or a code's challenge, "its 32 bytes in the
+-- place where tokens hold their origin"; "every slot becomes 67 bytes, zero-filled .., the ledger 34,312".
 use Prim.Native.Nat.{ℕ, _+_, _*_, _^_}
 use mathlib.Core.List.{List, [], _∷_}
 
@@ -27,9 +27,12 @@ farmSize = 4
 abbrev pub expirySize : ℕ
 expirySize = 8
 
--- kind, handle, client, farm, scope, expiry, origin
+abbrev pub linkSize : ℕ
+linkSize = 32
+
+-- kind, handle, client, farm, scope, expiry, link
 abbrev pub fieldSizes : List ℕ
-fieldSizes = 1 ∷ handleSize ∷ 1 ∷ farmSize ∷ 1 ∷ expirySize ∷ handleSize ∷ []
+fieldSizes = 1 ∷ handleSize ∷ 1 ∷ farmSize ∷ 1 ∷ expirySize ∷ linkSize ∷ []
 
 -- where each field starts in a slot; the kind stands first
 abbrev pub atHandle : ℕ
@@ -47,11 +50,11 @@ atScope = atFarm + farmSize
 abbrev pub atExpiry : ℕ
 atExpiry = atScope + 1
 
-abbrev pub atOrigin : ℕ
-atOrigin = atExpiry + expirySize
+abbrev pub atLink : ℕ
+atLink = atExpiry + expirySize
 
 abbrev pub slotSize : ℕ
-slotSize = atOrigin + handleSize
+slotSize = atLink + linkSize
 
 abbrev pub storeSize : ℕ
 storeSize = timeSize + slotCount * slotSize

@@ -1,6 +1,6 @@
 -- A store as the latest time seen and a list of slots: what a slot is, the tests of it, and how a store's bytes are
 -- read and written. A store is document 01's ledger, and its time the mark.
-use Prim.Native.Nat.{ℕ, zero, suc, _^_, _<_, max}
+use Prim.Native.Nat.{ℕ, zero, suc, _-_, _^_, _<_, max}
 use mathlib.Core.Path.{_≡_}
 use mathlib.Core.Bool.{Bool, cond, not, _&&_, _||_}
 use mathlib.Core.List.{List, [], _∷_, _++_, map}
@@ -9,7 +9,7 @@ use lib.ListN.{length, take, drop, getD, set, replicate}
 use Rattle.octets.specs.Lists.{part, same}
 use Rattle.octets.specs.BigEndian.{bigEndian, bigEndianBytes}
 use Rattle.encoding.specs.declared.HandleText.{HandleText}
-use Rattle.token_store.specs.Layout.{timeSize, slotCount, handleSize, farmSize, expirySize, fieldSizes, slotSize, slotStart}
+use Rattle.token_store.specs.Layout.{timeSize, slotCount, handleSize, farmSize, expirySize, linkSize, fieldSizes, slotSize, slotStart}
 use Rattle.octets.specs.Search.{replaceFirst, replaceAll}
 use Rattle.token_store.specs.declared.Slot.{Slot}
 use Rattle.token_store.specs.declared.Found.{Found}
@@ -24,7 +24,7 @@ pub record Store : Type 0 where
   pub slots : List Slot
 
 -- ---- kinds: "Kind 0 is free, body all zero; 1 code without bound redirect; 2 code with bound redirect; 3 access; 4 refresh."
--- "Keep an exchanged code as kind 5, spent"
+-- "Keep an exchanged code as kind 5, spent"; "Codes with a challenge are kinds 6 and 7 (without and with bound redirect)"
 
 abbrev pub kindFree : ℕ
 kindFree = 0
@@ -44,15 +44,32 @@ kindRefresh = 4
 abbrev pub kindSpent : ℕ
 kindSpent = 5
 
+abbrev pub kindChallengedCode : ℕ
+kindChallengedCode = 6
+
+abbrev pub kindBoundChallengedCode : ℕ
+kindBoundChallengedCode = 7
+
 -- the kinds number up to the last of them
 abbrev pub kindLast : ℕ
-kindLast = kindSpent
+kindLast = kindBoundChallengedCode
+
+-- the kind of a code, by whether its redirect is bound and whether it has a challenge
+abbrev pub codeKind : Bool → Bool → ℕ
+codeKind bound challenged = cond challenged (cond bound kindBoundChallengedCode kindChallengedCode) (cond bound kindBoundCode kindCode)
 
 abbrev pub isUsed : Slot → Bool
 isUsed s = not (eqb (s .kind) kindFree)
 
 abbrev pub isBoundCode : Slot → Bool
-isBoundCode s = eqb (s .kind) kindBoundCode
+isBoundCode s = eqb (s .kind) kindBoundCode || eqb (s .kind) kindBoundChallengedCode
+
+-- a code with a challenge
+abbrev pub isChallengedKind : ℕ → Bool
+isChallengedKind kind = eqb kind kindChallengedCode || eqb kind kindBoundChallengedCode
+
+abbrev pub isChallenged : Slot → Bool
+isChallenged s = isChallengedKind (s .kind)
 
 -- an access or a refresh token
 abbrev pub isTokenKind : ℕ → Bool
@@ -61,16 +78,27 @@ isTokenKind kind = eqb kind kindAccess || eqb kind kindRefresh
 abbrev pub isToken : Slot → Bool
 isToken s = isTokenKind (s .kind)
 
--- "for a code, 1 or 2"
+-- "for a code, 1 or 2", and with a challenge 6 or 7
 abbrev pub isSought : Sought → Slot → Bool
-isSought Code s = eqb (s .kind) kindCode || eqb (s .kind) kindBoundCode
+isSought Code s = eqb (s .kind) kindCode || eqb (s .kind) kindBoundCode || isChallenged s
 isSought Spent s = eqb (s .kind) kindSpent
 isSought Access s = eqb (s .kind) kindAccess
 isSought Refresh s = eqb (s .kind) kindRefresh
 
--- what stands in the place of the origin in all but tokens: "zero in codes (spent ones too ..)"
-abbrev pub noOrigin : List ℕ
-noOrigin = replicate handleSize 0
+-- ---- links: "Each access and refresh token records the handle of the code it came from"; codes with a challenge "hold its 32
+-- bytes in the place where tokens hold their origin (zero again once spent as kind 5)"; "zero-filled"
+
+-- the link of what has no origin and no challenge
+abbrev pub noLink : List ℕ
+noLink = replicate linkSize 0
+
+-- the link of a token, by the handle of the code that it came from
+abbrev pub linkTo : List ℕ → List ℕ
+linkTo origin = origin ++ replicate (linkSize - handleSize) 0
+
+-- the handle of the code that a token came from
+abbrev pub originOf : Slot → List ℕ
+originOf s = take handleSize (s .link)
 
 unfoldable pub freeSlot : Slot
 freeSlot = record {
@@ -80,10 +108,10 @@ freeSlot = record {
   farm = 0;
   scope = 0;
   expiry = 0;
-  origin = noOrigin;
+  link = noLink;
 }
 
--- a code once it is exchanged: nothing but its kind changes
+-- a code once it is exchanged: its kind changes, and it has no challenge any more
 abbrev pub spentCode : Slot → Slot
 spentCode s = record {
   kind = kindSpent;
@@ -92,7 +120,7 @@ spentCode s = record {
   farm = s .farm;
   scope = s .scope;
   expiry = s .expiry;
-  origin = s .origin;
+  link = noLink;
 }
 
 -- ---- time: "Something is live while T is below its expiry."
@@ -100,7 +128,7 @@ spentCode s = record {
 -- "Expiry is T plus 600 (code), 3,600 (access), 2,592,000 (refresh).": a row for each kind. A spent code is never issued: it is
 -- kept "until its old expiry"
 abbrev pub lifetimes : List ℕ
-lifetimes = 0 ∷ 600 ∷ 600 ∷ 3600 ∷ 2592000 ∷ 0 ∷ []
+lifetimes = 0 ∷ 600 ∷ 600 ∷ 3600 ∷ 2592000 ∷ 0 ∷ 600 ∷ 600 ∷ []
 
 abbrev pub lifetimeOf : ℕ → ℕ
 lifetimeOf kind = getD lifetimes kind 0
@@ -127,7 +155,7 @@ soughtKey q p s = isSought q s && shows p s
 
 -- a token that came from the code of this handle
 abbrev pub comesFrom : List ℕ → Slot → Bool
-comesFrom handle s = isToken s && same handle (s .origin)
+comesFrom handle s = isToken s && same handle (originOf s)
 
 -- "every token with that origin is cleared"
 abbrev pub withoutTokens : List ℕ → List Slot → List Slot
@@ -192,7 +220,7 @@ fieldsOf s =
     ∷ bigEndianBytes farmSize (s .farm)
     ∷ bigEndianBytes 1 (s .scope)
     ∷ bigEndianBytes expirySize (s .expiry)
-    ∷ s .origin
+    ∷ s .link
     ∷ []
 
 abbrev pub ofFields : List (List ℕ) → Slot
@@ -203,7 +231,7 @@ ofFields fs = record {
   farm = bigEndian (getD fs 3 []);
   scope = bigEndian (getD fs 4 []);
   expiry = bigEndian (getD fs 5 []);
-  origin = getD fs 6 [];
+  link = getD fs 6 [];
 }
 
 -- the fields fit their widths
@@ -214,7 +242,7 @@ pub record SlotFits (s : Slot) : Type 0 where
   pub farm : s .farm < 256 ^ farmSize
   pub scope : s .scope < 256 ^ 1
   pub expiry : s .expiry < 256 ^ expirySize
-  pub origin : length (s .origin) ≡ handleSize
+  pub link : length (s .link) ≡ linkSize
 
 -- so do those of every slot; past the list's end the slot is free
 abbrev pub SlotsFit : List Slot → Type 0

@@ -5,8 +5,8 @@ ghost use mathlib.Core.Path.{_≡_};
 ghost use Prim.Native.Nat.{_+_, _<_, _≤_};
 ghost use lib.ListN.{length};
 ghost use Rattle.octets.specs.Lists.{part, same};
-ghost use Rattle.token_store.specs.Layout.{storeSize, slotCount, handleSize, slotStart};
-ghost use Rattle.token_store.specs.Store.{decode, slotOf, isTokenKind, isLive, comesFrom};
+ghost use Rattle.token_store.specs.Layout.{storeSize, slotCount, handleSize, linkSize, slotStart};
+ghost use Rattle.token_store.specs.Store.{decode, slotOf, isTokenKind, isChallengedKind, isLive, linkTo, comesFrom};
 
 // Where slot i starts.
 pub(crate) fn slot_start(i: usize) -> usize
@@ -49,6 +49,13 @@ pub(crate) fn is_token_kind(kind: u8) -> bool
     (kind == layout::KIND_ACCESS) | (kind == layout::KIND_REFRESH)
 }
 
+// Whether a kind is that of a code with a challenge.
+pub(crate) fn is_challenged_kind(kind: u8) -> bool
+    ensures { λ r. ⌜ r ≡ isChallengedKind kind ⌝ }
+{
+    (kind == layout::KIND_CHALLENGED_CODE) | (kind == layout::KIND_BOUND_CHALLENGED_CODE)
+}
+
 // Whether slot i is a token that came from the code of this handle.
 pub(crate) fn comes_from(store: &[u8], i: usize, handle: &[u8]) -> bool
     requires { ⌜ (length (now store) ≡ storeSize) × (i < slotCount) ⌝ }
@@ -57,7 +64,7 @@ pub(crate) fn comes_from(store: &[u8], i: usize, handle: &[u8]) -> bool
     if !is_token_kind(kind_of(store, i)) {
         return false;
     }
-    let at = slot_start(i) + layout::AT_ORIGIN;
+    let at = slot_start(i) + layout::AT_LINK;
     let end = at + layout::HANDLE_SIZE;
     octets::equal(handle, &store[at..end])
 }
@@ -83,13 +90,34 @@ pub fn handle_at(b: &[u8], at: usize) -> [u8; layout::HANDLE_SIZE]
     handle
 }
 
+// The link of a token that came from the code of this handle.
+pub fn link_to(origin: [u8; layout::HANDLE_SIZE]) -> [u8; layout::LINK_SIZE]
+    ensures { λ r. ⌜ r ≡ linkTo origin ⌝ }
+{
+    let mut link = [0u8; layout::LINK_SIZE];
+    let handle = origin;
+    octets::copy_at(&mut link, 0, &handle);
+    link
+}
+
+// The link in the bytes from `at` on.
+fn link_at(b: &[u8], at: usize) -> [u8; layout::LINK_SIZE]
+    requires { ⌜ at + linkSize ≤ length (now b) ⌝ }
+    ensures { λ r. ⌜ r ≡ part (now (b .entry)) at linkSize ⌝ }
+{
+    let mut link = [0u8; layout::LINK_SIZE];
+    let end = at + layout::LINK_SIZE;
+    octets::copy_at(&mut link, 0, &b[at..end]);
+    link
+}
+
 pub fn slot_at(store: &[u8], i: usize) -> Slot
     requires { ⌜ (length (now store) ≡ storeSize) × (i < slotCount) ⌝ }
     ensures { λ r. ⌜ r ≡ slotOf (decode (now (store .entry))) i ⌝ }
 {
     let at = slot_start(i);
     let handle = handle_at(store, at + layout::AT_HANDLE);
-    let origin = handle_at(store, at + layout::AT_ORIGIN);
+    let link = link_at(store, at + layout::AT_LINK);
     Slot {
         kind: store[at],
         handle,
@@ -97,6 +125,6 @@ pub fn slot_at(store: &[u8], i: usize) -> Slot
         farm: octets::read_be32(store, at + layout::AT_FARM),
         scope: store[at + layout::AT_SCOPE],
         expiry: octets::read_be64(store, at + layout::AT_EXPIRY),
-        origin,
+        link,
     }
 }

@@ -3,9 +3,9 @@ pub const TIME_SIZE: usize = 8;
 
 pub const SLOT_COUNT: usize = 512;
 
-pub const SLOT_SIZE: usize = 55;
+pub const SLOT_SIZE: usize = 67;
 
-pub const STORE_SIZE: usize = 28168;
+pub const STORE_SIZE: usize = 34312;
 
 // Where each field starts in a slot, behind the kind, and the widths of those that are wider than a byte.
 pub const AT_HANDLE: usize = 1;
@@ -18,13 +18,15 @@ pub const AT_SCOPE: usize = 26;
 
 pub const AT_EXPIRY: usize = 27;
 
-pub const AT_ORIGIN: usize = 35;
+pub const AT_LINK: usize = 35;
 
 pub const HANDLE_SIZE: usize = encoding::HANDLE_SIZE;
 
 pub const FARM_SIZE: usize = 4;
 
 pub const EXPIRY_SIZE: usize = 8;
+
+pub const LINK_SIZE: usize = 32;
 
 // The latest time that a clock or a store may show, 2 to the 40.
 pub const LATEST_TIME: u64 = 1099511627776;
@@ -42,8 +44,12 @@ pub const KIND_REFRESH: u8 = 4;
 
 pub const KIND_SPENT: u8 = 5;
 
+pub const KIND_CHALLENGED_CODE: u8 = 6;
+
+pub const KIND_BOUND_CHALLENGED_CODE: u8 = 7;
+
 // The kinds number up to the last of them.
-pub const KIND_LAST: u8 = KIND_SPENT;
+pub const KIND_LAST: u8 = KIND_BOUND_CHALLENGED_CODE;
 
 // How many seconds what is issued lives: a row for each kind. A spent code keeps its expiry.
-pub const LIFETIMES: [u64; 6] = [0, 600, 600, 3600, 2592000, 0];
+pub const LIFETIMES: [u64; 8] = [0, 600, 600, 3600, 2592000, 0, 600, 600];

@@ -3,7 +3,7 @@
 // `fit` answers whether bytes are a store; every other function asks for bytes of the right length. Contracts speak of
 // the decoded store, whose slots are numbered from 0: no caller looks at a byte.
 ghost use mathlib.Core.Path.{_≡_};
-ghost use Rattle.token_store.specs.Store.{isLive};
+ghost use Rattle.token_store.specs.Store.{isLive, isBoundCode, isChallenged, originOf};
 
 mod fields;
 mod fitness;
@@ -13,6 +13,8 @@ mod time;
 mod write;
 
 pub use fields::handle_at;
+use fields::is_challenged_kind;
+pub use fields::link_to;
 pub use fields::slot_at;
 pub use fitness::fit;
 pub use search::clashes;
@@ -33,8 +35,8 @@ pub struct Slot {
     pub farm: u32,
     pub scope: u8,
     pub expiry: u64,
-    // of a token: the handle of the code that it came from
-    pub origin: [u8; layout::HANDLE_SIZE],
+    // of a token: the handle of the code that it came from, and zeros; of a code with a challenge: the challenge; else zeros
+    pub link: [u8; layout::LINK_SIZE],
 }
 
 impl Slot {
@@ -44,9 +46,31 @@ impl Slot {
     {
         (self.kind != layout::KIND_FREE) & (t < self.expiry)
     }
+
+    // Whether it is a code whose redirect address must be repeated.
+    pub fn is_bound_code(self) -> bool
+        ensures { λ r. ⌜ r ≡ isBoundCode self ⌝ }
+    {
+        (self.kind == layout::KIND_BOUND_CODE) | (self.kind == layout::KIND_BOUND_CHALLENGED_CODE)
+    }
+
+    // Whether it is a code with a challenge.
+    pub fn is_challenged(self) -> bool
+        ensures { λ r. ⌜ r ≡ isChallenged self ⌝ }
+    {
+        is_challenged_kind(self.kind)
+    }
+
+    // The handle of the code that a token came from.
+    pub fn origin(self) -> [u8; layout::HANDLE_SIZE]
+        ensures { λ r. ⌜ r ≡ originOf self ⌝ }
+    {
+        let link = self.link;
+        handle_at(&link, 0)
+    }
 }
 
-// What a look-up is for: a code of either kind, a code that was exchanged, an access token or a refresh token.
+// What a look-up is for: a code of any kind, a code that was exchanged, an access token or a refresh token.
 pub enum Sought {
     Code,
     Spent,

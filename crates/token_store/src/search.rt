@@ -3,6 +3,7 @@ use crate::Found;
 use crate::Sought;
 use crate::Vacancy;
 use crate::fields::has_handle;
+use crate::fields::is_challenged_kind;
 use crate::fields::is_live;
 use crate::fields::kind_of;
 use crate::layout;
@@ -22,7 +23,9 @@ fn is_sought(store: &[u8], i: usize, sought: Sought) -> bool
 {
     let kind = kind_of(store, i);
     match sought {
-        Sought::Code => (kind == layout::KIND_CODE) | (kind == layout::KIND_BOUND_CODE),
+        Sought::Code => (kind == layout::KIND_CODE)
+            | (kind == layout::KIND_BOUND_CODE)
+            | is_challenged_kind(kind),
         Sought::Spent => kind == layout::KIND_SPENT,
         Sought::Access => kind == layout::KIND_ACCESS,
         Sought::Refresh => kind == layout::KIND_REFRESH,

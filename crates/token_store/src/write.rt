@@ -23,8 +23,8 @@ fn slot_bytes(s: Slot) -> [u8; layout::SLOT_SIZE]
     octets::write_be(&mut b, layout::AT_FARM, layout::FARM_SIZE, s.farm as u64);
     b[layout::AT_SCOPE] = s.scope;
     octets::write_be(&mut b, layout::AT_EXPIRY, layout::EXPIRY_SIZE, s.expiry);
-    let origin = s.origin;
-    octets::copy_at(&mut b, layout::AT_ORIGIN, &origin);
+    let link = s.link;
+    octets::copy_at(&mut b, layout::AT_LINK, &link);
     b
 }
 

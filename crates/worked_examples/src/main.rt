@@ -11,13 +11,17 @@
 //   written TEXT                                a text as the writer of forms writes it
 //   decode VALUE                                what a value of a form decodes to, and in how many turns
 //   form NAME FORM                              what a form says of a name
+//   message TEXT                                the SHA-256 digest of a text
+//   repeated COUNT                              the digest of so many letters `a`
 //   scope VALUE                                 what a scope value says, coded as in a form
+//   url TEXT                                    the digest that a base64url text stands for
 //   new                                         a token store with nothing in it
 //   authorize CLOCK DECISION FARM HEX QUERY     the exports, on that store and the registry of document 01's visit
 //   token CLOCK HEX BODY HEADER
 //   check CLOCK TOKEN
 use authorization_server::CheckReply;
 use client_registry::layout;
+use encoding::Base64Kind;
 use encoding::Decoded;
 use form::Count;
 use form::Outcome;
@@ -30,6 +34,9 @@ use scope::ScopeValue;
 
 // The most bytes of a text that is decoded or written.
 const MOST_TEXT: usize = 512;
+
+// The most letters of a message that is written so.
+const MOST_LETTERS: usize = 4096;
 
 // Beyond it a number is read no further: above every clock, 2 to the 40.
 const MOST_NUMBER: u64 = 1000000000000000;
@@ -129,7 +136,7 @@ fn base64(text: &[u8]) {
     if MOST_TEXT < text.len() {
         return;
     }
-    match encoding::decode_base64(text, &mut out) {
+    match encoding::decode_base64(Base64Kind::STANDARD, text, &mut out) {
         Decoded::Length(n) => found(first(&out, n)),
         Decoded::Malformed => found(b"refused"),
     }
@@ -168,6 +175,30 @@ fn octets_written(text: &[u8]) {
     let bytes = first(&out, n);
     digits(bytes);
     written(bytes);
+}
+
+fn message(text: &[u8]) {
+    let digest = sha256::digest(text);
+    digits(&digest);
+}
+
+fn repeated(count: &[u8]) {
+    let letters = [b'a'; MOST_LETTERS];
+    let n = number(count);
+    if (MOST_LETTERS as u64) < n {
+        return;
+    }
+    message(first(&letters, n as usize));
+}
+
+fn url_digest(text: &[u8]) {
+    let d = encoding::read_digest(text);
+    let bytes = d.bytes;
+    if d.valid {
+        digits(&bytes);
+    } else {
+        found(b"refused");
+    }
 }
 
 fn decoded(value: &[u8]) {
@@ -406,10 +437,13 @@ fn run(command: u8, args: &[u8], registry: &[u8], store: &mut [u8]) {
         b'd' => decoded_in_turns(args),
         b'f' => form_says(args),
         b'h' => handle(args),
+        b'm' => message(args),
         b'n' => octets::clear_at(store, 0, store.len()),
         b'o' => octets_written(args),
+        b'r' => repeated(args),
         b's' => scope_says(args),
         b't' => token(args, registry, store),
+        b'u' => url_digest(args),
         b'w' => written(args),
         _ => found(b"no such command"),
     }

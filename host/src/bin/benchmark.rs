@@ -6,6 +6,7 @@ use std::hint::black_box;
 use std::time::Instant;
 
 use poplarchime_host::measuring::medians;
+use poplarchime_host::plain::sha256;
 use poplarchime_host::program::{Program, EXPORTS, PLAIN};
 use poplarchime_host::sample::{self, Client, Slot};
 
@@ -17,6 +18,11 @@ const BATCH: usize = 40;
 /// Where the code and the refresh token stand, and the slots behind it, which have run out and are taken.
 const PRESENTED: usize = sample::SLOTS - 3;
 const BEHIND: [usize; 2] = [sample::SLOTS - 2, sample::SLOTS - 1];
+
+/// The longest verifier that there is, and the names of the rows in which it or its challenge plays a part.
+const VERIFIER: [u8; 128] = [b'v'; 128];
+const WITH_CHALLENGE: &str = "authorize with a challenge";
+const WITH_VERIFIER: &str = "exchange with a verifier";
 
 /// A call that is made again and again.
 struct Case {
@@ -137,10 +143,14 @@ fn store(live: usize, clients: usize) -> Vec<u8> {
     store
 }
 
-/// A live slot. A token is its own origin.
+/// A live slot. A token is its own origin; a challenge is that of the verifier.
 fn slot(kind: u8, number: usize, client: usize) -> Slot {
     let (client, origin) = (client as u8, handle(number));
-    Slot { client, farm: 7, scope: 9, origin, ..Slot::of(kind, handle(number), NOW + 1) }.turned(kind)
+    let slot = Slot { client, farm: 7, scope: 9, origin, ..Slot::of(kind, handle(number), NOW + 1) };
+    match slot.has_challenge() {
+        true => slot.challenged(sha256::digest(&VERIFIER)),
+        false => slot.turned(kind),
+    }
 }
 
 fn check_case(name: &'static str, clients: &[Client], live: usize, token: usize) -> Case {
@@ -164,12 +174,16 @@ fn presenting_store(clients: usize, live: usize, kind: u8) -> Vec<u8> {
     store
 }
 
-fn authorize_case(clients: &[Client], live: usize) -> Case {
+fn authorize_case(name: &'static str, clients: &[Client], live: usize) -> Case {
     let last = clients.last().expect("a client");
     let id: String = last.id.escape_ascii().to_string().replace(' ', "+");
-    let query = format!("response_type=code&client_id={id}&state=af0ifjsldkj&scope=power+bill");
+    let mut query = format!("response_type=code&client_id={id}&state=af0ifjsldkj&scope=power+bill");
+    if name == WITH_CHALLENGE {
+        let challenge = sample::base64url(&sha256::digest(&VERIFIER));
+        query.push_str(&format!("&code_challenge={challenge}&code_challenge_method=S256"));
+    }
     let store = presenting_store(clients.len(), live, sample::ACCESS);
-    Case { name: "authorize", request: Request::Authorize(query), registry: sample::registry(clients), store }
+    Case { name, request: Request::Authorize(query), registry: sample::registry(clients), store }
 }
 
 fn token_case(name: &'static str, clients: &[Client], live: usize) -> Case {
@@ -179,6 +193,7 @@ fn token_case(name: &'static str, clients: &[Client], live: usize) -> Case {
     let exchange = format!("grant_type=authorization_code&code={presented}");
     let (kind, body) = match name {
         "exchange" => (sample::CODE, exchange),
+        WITH_VERIFIER => (sample::CHALLENGED_CODE, format!("{exchange}&code_verifier={}", VERIFIER.escape_ascii())),
         "second showing" => (sample::SPENT, exchange),
         "client credentials" => (sample::ACCESS, "grant_type=client_credentials&scope=power".into()),
         _ => (sample::REFRESH, format!("grant_type=refresh_token&refresh_token={presented}&scope=power")),
@@ -213,7 +228,7 @@ fn main() {
     println!(
         "All slots are live but the ones that a call takes, which have run out. The last three are put back after each"
     );
-    println!("call (165 bytes, for both programs): the presented one and those that are taken, or cleared by a second showing.");
+    println!("call (201 bytes, for both programs): the presented one and those that are taken, or cleared by a second showing.");
     println!("The client is the last one.");
     println!("Both programs are optimised for plain x86-64.");
 }
@@ -224,8 +239,10 @@ fn full_store(title: &str, clients: &[Client]) {
     let cases = [
         check_case("check, token in the last slot", clients, live, live - 1),
         check_case("check, token nowhere", clients, live, live),
-        authorize_case(clients, live),
+        authorize_case("authorize", clients, live),
+        authorize_case(WITH_CHALLENGE, clients, live),
         token_case("exchange", clients, live),
+        token_case(WITH_VERIFIER, clients, live),
         token_case("second showing", clients, live),
         token_case("refresh", clients, live),
         token_case("client credentials", clients, live),

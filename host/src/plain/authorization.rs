@@ -1,10 +1,12 @@
-//! The authorization endpoint (RFC 6749 sections 3.1 and 4.1.1 to 4.1.2.1).
+//! The authorization endpoint (RFC 6749 sections 3.1 and 4.1.1 to 4.1.2.1, RFC 7636 sections 4.3 and 4.4).
 
 use super::form::{self, Field, Form};
 use super::handle::{self, Handle};
+use super::pkce;
 use super::registry::{Client, Registry};
 use super::scope::ScopeSet;
-use super::store::{Grant, Kind, Store, NO_FARM, NO_ORIGIN};
+use super::sha256::Digest;
+use super::store::{Grant, Store, NO_FARM};
 use super::{admit, write, Unfit, FORM_LIMIT, LEAST_OUTPUT};
 use crate::answers::{Authorization, ErrorWord};
 
@@ -28,8 +30,14 @@ pub struct Request {
     pub bound: bool,
     /// The state, if it came once and is sound.
     pub state: Option<Vec<u8>>,
-    /// The scope asked for, or the error word that the request earns by itself.
-    pub scope: Result<ScopeSet, ErrorWord>,
+    /// What is asked for, or the error word that the request earns by itself.
+    pub asked: Result<Asked, ErrorWord>,
+}
+
+#[derive(Clone, Copy, Debug, PartialEq, Eq)]
+pub struct Asked {
+    pub scope: ScopeSet,
+    pub challenge: Option<Digest>,
 }
 
 #[allow(clippy::too_many_arguments)] // the export's own
@@ -82,7 +90,7 @@ impl Request {
             Field::Repeated => return Err(ErrorPage::Client),
         };
         let state = form.field("state").value().filter(|state| is_sound_state(state)).map(<[u8]>::to_vec);
-        Ok(Request { client, bound, state, scope: asked_scope(&form, registered) })
+        Ok(Request { client, bound, state, asked: asked(&form, registered) })
     }
 
     /// Issues the code in the store, or says with which error word the owner is sent back.
@@ -94,7 +102,7 @@ impl Request {
         now: u64,
         handle: &Handle,
     ) -> Result<Handle, ErrorWord> {
-        let scope = self.scope?;
+        let Asked { scope, challenge } = self.asked?;
         // Farm 0 has no owner who could allow anything.
         if decision != ALLOW || farm == NO_FARM {
             return Err(ErrorWord::AccessDenied);
@@ -105,8 +113,8 @@ impl Request {
         if store.has_handle(handle) {
             return Err(ErrorWord::ServerError);
         }
-        let kind = if self.bound { Kind::BoundCode } else { Kind::Code };
-        store.issue(kind, handle, &Grant { client: self.client, farm, scope, origin: NO_ORIGIN }, now);
+        let grant = Grant { client: self.client, farm, scope };
+        store.issue_code(handle, &grant, self.bound, challenge.as_ref(), now);
         Ok(*handle)
     }
 
@@ -125,8 +133,8 @@ impl Request {
     }
 }
 
-/// The scope that the request asks for, the client's own when it names none.
-fn asked_scope(form: &Form, client: &Client) -> Result<ScopeSet, ErrorWord> {
+/// What the request asks for: a scope, the client's own when it names none, and a challenge.
+fn asked(form: &Form, client: &Client) -> Result<Asked, ErrorWord> {
     let Field::Once(response_type) = form.field("response_type") else {
         return Err(ErrorWord::InvalidRequest);
     };
@@ -140,10 +148,22 @@ fn asked_scope(form: &Form, client: &Client) -> Result<ScopeSet, ErrorWord> {
         Field::Once(state) if is_sound_state(state) => {}
         Field::Once(_) | Field::Repeated => return Err(ErrorWord::InvalidRequest),
     }
+    let challenge = asked_challenge(form, client).ok_or(ErrorWord::InvalidRequest)?;
     if response_type != b"code" {
         return Err(ErrorWord::UnsupportedResponseType);
     }
-    ScopeSet::asked(scope, client.scope).ok_or(ErrorWord::InvalidScope)
+    let scope = ScopeSet::asked(scope, client.scope).ok_or(ErrorWord::InvalidScope)?;
+    Ok(Asked { scope, challenge })
+}
+
+/// The challenge with which the code is asked for, if any; nothing if it is not as it should be. A public client has no
+/// secret, so that it must send one.
+fn asked_challenge(form: &Form, client: &Client) -> Option<Option<Digest>> {
+    match (form.field("code_challenge"), form.field("code_challenge_method")) {
+        (Field::Missing, Field::Missing) => (!client.is_public()).then_some(None),
+        (Field::Once(challenge), Field::Once(pkce::METHOD)) => pkce::read_challenge(challenge).map(Some),
+        _ => None,
+    }
 }
 
 fn is_sound_state(state: &[u8]) -> bool {

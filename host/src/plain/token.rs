@@ -1,8 +1,9 @@
-//! The token endpoint (RFC 6749 sections 2.3.1, 3.2, 4.1.2 to 4.1.4, 4.4, 5 and 6).
+//! The token endpoint (RFC 6749 sections 2.3.1, 3.2, 4.1.2 to 4.1.4, 4.4, 5 and 6, RFC 7636 section 4.6).
 
 use super::base64;
 use super::form::{self, Field, Form};
 use super::handle::{self, Handle, HANDLE_SIZE};
+use super::pkce;
 use super::registry::Registry;
 use super::scope::ScopeSet;
 use super::store::{Entry, Grant, Kind, NO_FARM};
@@ -10,10 +11,8 @@ use super::{admit, write, Admitted, Unfit, FORM_LIMIT, LEAST_OUTPUT};
 use crate::answers::{ErrorWord, TokenReply};
 
 const HEADER_LIMIT: usize = 512;
-/// The codes that can be exchanged.
-const UNSPENT: &[Kind] = &[Kind::Code, Kind::BoundCode];
-const KNOWN_NAMES: [&str; 7] =
-    ["grant_type", "code", "redirect_uri", "client_id", "client_secret", "refresh_token", "scope"];
+const KNOWN_NAMES: [&str; 8] =
+    ["grant_type", "code", "redirect_uri", "client_id", "client_secret", "refresh_token", "scope", "code_verifier"];
 
 /// A well-formed request of an authenticated client.
 #[derive(Clone, Debug, PartialEq, Eq)]
@@ -25,7 +24,7 @@ pub struct Request {
 /// What is presented and asked for, as the form has it.
 #[derive(Clone, Debug, PartialEq, Eq)]
 pub enum Asked {
-    Exchange { code: Vec<u8>, redirect: Option<Vec<u8>> },
+    Exchange { code: Vec<u8>, redirect: Option<Vec<u8>>, verifier: Option<Vec<u8>> },
     Refresh { token: Vec<u8>, scope: Option<Vec<u8>> },
     ClientCredentials { scope: Option<Vec<u8>> },
 }
@@ -113,7 +112,11 @@ impl Request {
         let required = |name| value(name).map(<[u8]>::to_vec).ok_or(ErrorWord::InvalidRequest);
         let optional = |name| value(name).map(<[u8]>::to_vec);
         let asked = match grant_type {
-            b"authorization_code" => Asked::Exchange { code: required("code")?, redirect: optional("redirect_uri") },
+            b"authorization_code" => Asked::Exchange {
+                code: required("code")?,
+                redirect: optional("redirect_uri"),
+                verifier: optional("code_verifier"),
+            },
             b"refresh_token" => Asked::Refresh { token: required("refresh_token")?, scope: optional("scope") },
             b"client_credentials" => Asked::ClientCredentials { scope: optional("scope") },
             _ => return Err(ErrorWord::UnsupportedGrantType),
@@ -124,7 +127,9 @@ impl Request {
     /// Issues the tokens in the store and gives the reply.
     fn grant(&self, admitted: &mut Admitted, handles: &[Handle; 2]) -> Result<String, Denial> {
         match &self.asked {
-            Asked::Exchange { code, redirect } => self.exchange(code, redirect.as_deref(), admitted, handles),
+            Asked::Exchange { code, redirect, verifier } => {
+                self.exchange(code, redirect.as_deref(), verifier.as_deref(), admitted, handles)
+            }
             Asked::Refresh { token, scope } => self.refresh(token, scope.as_deref(), admitted, &handles[0]),
             Asked::ClientCredentials { scope } => self.client_credentials(scope.as_deref(), admitted, &handles[0]),
         }
@@ -134,17 +139,22 @@ impl Request {
         &self,
         code: &[u8],
         redirect: Option<&[u8]>,
+        verifier: Option<&[u8]>,
         admitted: &mut Admitted,
         [access, refresh]: &[Handle; 2],
     ) -> Result<String, Denial> {
         let code = handle::parse(code).ok_or(ErrorWord::InvalidGrant)?;
-        if admitted.store.find(UNSPENT, &code).is_none() {
+        if admitted.store.find(&Kind::UNSPENT, &code).is_none() {
             self.show_again(&code, admitted);
             return Err(ErrorWord::InvalidGrant.into());
         }
-        let (number, entry) = self.find(UNSPENT, &code, admitted)?;
+        let (number, entry) = self.find(&Kind::UNSPENT, &code, admitted)?;
         let registered = admitted.registry.client(self.client).redirect;
-        if entry.kind == Kind::BoundCode && redirect != Some(registered) {
+        if entry.kind.is_bound() && redirect != Some(registered) {
+            return Err(ErrorWord::InvalidGrant.into());
+        }
+        let is_verified = |challenge| verifier.is_some_and(|verifier| pkce::verifies(verifier, &challenge));
+        if !entry.challenge.is_none_or(is_verified) {
             return Err(ErrorWord::InvalidGrant.into());
         }
         let Admitted { store, now, .. } = admitted;
@@ -154,11 +164,10 @@ impl Request {
         if access == refresh || store.has_handle(access) || store.has_handle(refresh) {
             return Err(Denial::Clash);
         }
-        let grant = Grant { origin: code, ..entry.grant };
         store.spend(number);
-        store.issue(Kind::Access, access, &grant, *now);
-        store.issue(Kind::Refresh, refresh, &grant, *now);
-        Ok(reply(access, Some(refresh), grant.scope))
+        store.issue_token(Kind::Access, access, &entry.grant, &code, *now);
+        store.issue_token(Kind::Refresh, refresh, &entry.grant, &code, *now);
+        Ok(reply(access, Some(refresh), entry.grant.scope))
     }
 
     /// A code that this client has exchanged before is in other hands too (RFC 6749 section 4.1.2): while it would have
@@ -179,7 +188,8 @@ impl Request {
         let token = handle::parse(token).ok_or(ErrorWord::InvalidGrant)?;
         let (_, entry) = self.find(&[Kind::Refresh], &token, admitted)?;
         let scope = ScopeSet::asked(scope, entry.grant.scope).ok_or(ErrorWord::InvalidScope)?;
-        issue_access(&Grant { scope, ..entry.grant }, admitted, access)
+        let origin = entry.origin.expect("a token has one");
+        issue_access(&Grant { scope, ..entry.grant }, &origin, admitted, access)
     }
 
     /// The client asks for itself; its secret is all that speaks for it, so it must have one.
@@ -194,7 +204,7 @@ impl Request {
             return Err(ErrorWord::UnauthorizedClient.into());
         }
         let scope = ScopeSet::asked(scope, client.scope).ok_or(ErrorWord::InvalidScope)?;
-        issue_access(&Grant { client: self.client, farm: NO_FARM, scope, origin: *access }, admitted, access)
+        issue_access(&Grant { client: self.client, farm: NO_FARM, scope }, access, admitted, access)
     }
 
     /// The slot that a presented handle names, if it is live and this client's.
@@ -208,7 +218,7 @@ impl Request {
 }
 
 /// Issues an access token without a refresh token, and gives the reply.
-fn issue_access(grant: &Grant, admitted: &mut Admitted, access: &Handle) -> Result<String, Denial> {
+fn issue_access(grant: &Grant, origin: &Handle, admitted: &mut Admitted, access: &Handle) -> Result<String, Denial> {
     let Admitted { store, now, .. } = admitted;
     if store.room(*now) == 0 {
         return Err(Denial::NoRoom);
@@ -216,7 +226,7 @@ fn issue_access(grant: &Grant, admitted: &mut Admitted, access: &Handle) -> Resu
     if store.has_handle(access) {
         return Err(Denial::Clash);
     }
-    store.issue(Kind::Access, access, grant, *now);
+    store.issue_token(Kind::Access, access, grant, origin, *now);
     Ok(reply(access, None, grant.scope))
 }
 

@@ -48,12 +48,13 @@ fn one_access_token_for_farm_0() {
     for (header, body) in [(BASIC, BODY), ("", BY_BODY), (BASIC, "grant_type=client_credentials&client_id=grainpool")] {
         let mut host = host();
         assert_eq!(host.token(header, body, 1000, 0x20), token_for("pump solar"));
-        // The time, then the slot: kind 3, the handle, client 2, farm 0, its scope set, expiry 4600, the handle again.
+        // The time, then the slot: kind 3, the handle, client 2, farm 0, its scope set, expiry 4600, the handle again
+        // and twelve zeros.
         let expiry = [0, 0, 0, 0, 0, 0, 0x11, 0xf8];
-        let slot = [&[3][..], &counting(0x20), &[2], &[0; 4], &[192], &expiry, &counting(0x20)].concat();
+        let slot = [&[3][..], &counting(0x20), &[2], &[0; 4], &[192], &expiry, &counting(0x20), &[0; 12]].concat();
         let expected = [&[0, 0, 0, 0, 0, 0, 0x03, 0xe8], &slot[..]].concat();
-        assert_eq!(host.store[..8 + 55], expected);
-        assert!(host.store[8 + 55..].iter().all(|&byte| byte == 0), "one slot");
+        assert_eq!(host.store[..8 + 67], expected);
+        assert!(host.store[8 + 67..].iter().all(|&byte| byte == 0), "one slot");
     }
 }
 

@@ -1,14 +1,16 @@
 //! Demand 3, run as a program over calls and answers alone.
 //!
-//! The judge keeps what the calls so far contain: which codes and tokens were issued, to whom, for how long, which codes
-//! were exchanged, and which were shown a second time. It does not look at the store. From that it says of every
-//! exchange, refresh, request by client credentials and check whether it must succeed, and the exports' answers must be
-//! exactly so. Of the store it says only what the demand's last sentence says: which slots a refused call leaves.
+//! The judge keeps what the calls so far contain: which codes and tokens were issued, to whom, for how long, by which
+//! challenge, which codes were exchanged, and which were shown a second time. It does not look at the store. From that
+//! it says of every exchange, refresh, request by client credentials and check whether it must succeed, and the exports'
+//! answers must be exactly so. Of the store it says only what the demand's last sentence says: which slots a refused call
+//! leaves.
 
 use std::collections::HashSet;
 
 use poplarchime_host::plain::registry::{Client, Registry};
 use poplarchime_host::plain::scope::NAMES;
+use poplarchime_host::plain::sha256::{self, Digest};
 use poplarchime_host::plain::token::Asked;
 use poplarchime_host::plain::{authorization, token};
 use poplarchime_host::program::EXPORTS;
@@ -16,6 +18,7 @@ use poplarchime_host::sample::{self, Slot};
 
 use crate::support::call::{Answer, Call, Request};
 use crate::support::compare::{keeps_demand_1, run, After};
+use crate::support::pkce::UNRESERVED;
 use crate::support::rng::Rng;
 use crate::support::tally::Tally;
 use crate::support::world::{random_clients, Start, World};
@@ -26,7 +29,7 @@ const NO_FARM: u32 = 0;
 
 #[derive(Clone, Copy, Debug, PartialEq, Eq)]
 enum What {
-    Code { bound: bool },
+    Code { bound: bool, challenge: Option<Digest> },
     Access,
     Refresh,
 }
@@ -72,6 +75,14 @@ impl Issue {
 
     fn is_live(&self, now: u64) -> bool {
         !self.has_run_out(now) && !self.withdrawn
+    }
+
+    /// The challenge that a code was asked for with.
+    fn challenge(&self) -> Option<Digest> {
+        match self.what {
+            What::Code { challenge, .. } => challenge,
+            What::Access | What::Refresh => None,
+        }
     }
 }
 
@@ -121,9 +132,9 @@ impl Judge {
             }
             Request::Token { header, body } => match token::Request::read(header, body, &registry) {
                 Err(_) => Verdict::NotAdmitted,
-                Ok(token::Request { client, asked: Asked::Exchange { code, redirect } }) => {
+                Ok(token::Request { client, asked: Asked::Exchange { code, redirect, verifier } }) => {
                     let repeated = redirect.as_deref() == Some(registry.client(client).redirect);
-                    self.judge_exchange(client, &code, repeated, self.now(call))
+                    self.judge_exchange(client, &code, repeated, verifier.as_deref(), self.now(call))
                 }
                 Ok(token::Request { client, asked: Asked::Refresh { token, scope } }) => {
                     self.judge_refresh(client, &token, scope.as_deref(), self.now(call))
@@ -135,15 +146,29 @@ impl Judge {
         }
     }
 
-    fn judge_exchange(&self, client: usize, code: &[u8], redirect_repeated: bool, now: u64) -> Verdict {
+    fn judge_exchange(
+        &self,
+        client: usize,
+        code: &[u8],
+        redirect_repeated: bool,
+        verifier: Option<&[u8]>,
+        now: u64,
+    ) -> Verdict {
         let issued = self.issued(code).filter(|issue| matches!(issue.what, What::Code { .. }));
-        let bound = issued.is_some_and(|issue| issue.what == What::Code { bound: true });
+        let bound = issued.is_some_and(|issue| matches!(issue.what, What::Code { bound: true, .. }));
+        let challenge = issued.and_then(Issue::challenge);
+        let verifies = |test: &dyn Fn(&[u8], Digest) -> bool| {
+            challenge.is_none_or(|challenge| verifier.is_none_or(|verifier| test(verifier, challenge)))
+        };
         verdict(&[
             ("not issued as a code", issued.is_some()),
             ("issued to another client", issued.is_none_or(|issue| issue.grant.client == client)),
             ("run out", issued.is_none_or(|issue| !issue.has_run_out(now))),
             ("exchanged before", issued.is_none_or(|issue| !issue.exchanged)),
             ("redirect not repeated", !bound || redirect_repeated),
+            ("no verifier", challenge.is_none() || verifier.is_some()),
+            ("verifier malformed", verifies(&|verifier, _| is_verifier(verifier))),
+            ("verifier of another digest", verifies(&|verifier, challenge| sha256::digest(verifier) == challenge)),
             ("no room", self.standing(now) + 2 <= ROOM),
         ])
     }
@@ -170,12 +195,16 @@ impl Judge {
 
     /// The code that the call shows a second time: it was exchanged before, and is live and that of the client.
     fn shown_again(&self, call: &Call) -> Option<&Issue> {
-        let Request::Token { header, body } = &call.request else { return None };
-        let registry = Registry::parse(&call.registry)?;
-        let token::Request { client, asked } = token::Request::read(header, body, &registry).ok()?;
+        let token::Request { client, asked } = token_request(call)?;
         let Asked::Exchange { code, .. } = asked else { return None };
         let is_clients = |issue: &&Issue| issue.grant.client == client && !issue.has_run_out(self.now(call));
         self.issued(&code).filter(is_clients).filter(|issue| issue.exchanged)
+    }
+
+    /// The code that the call would exchange, and whether it brings a verifier.
+    fn exchanged(&self, call: &Call) -> Option<(&Issue, bool)> {
+        let Asked::Exchange { code, verifier, .. } = token_request(call)?.asked else { return None };
+        Some((self.issued(&code)?, verifier.is_some()))
     }
 
     /// The issue of a code or token. Under the premise no two have the same text.
@@ -207,11 +236,13 @@ impl Judge {
         match &call.request {
             Request::Authorize { query, farm, .. } if after.answer.issued() => {
                 assert_ne!(*farm, NO_FARM, "no owner can allow it\n{call}");
-                let asked = authorization::Request::read(query, &registry).expect("it was granted");
-                let scope = asked.scope.expect("it was granted").0;
+                let request = authorization::Request::read(query, &registry).expect("it was granted");
+                let asked = request.asked.expect("it was granted");
+                let public = registry.client(request.client).secret.is_none();
+                assert!(!public || asked.challenge.is_some(), "a public client sent no challenge\n{call}");
                 let text = behind(&after.text(), "code=", "&").expect("a code in the location");
-                let grant = Grant { client: asked.client, farm: *farm, scope, origin: None };
-                self.issue(What::Code { bound: asked.bound }, text, grant);
+                let grant = Grant { client: request.client, farm: *farm, scope: asked.scope.0, origin: None };
+                self.issue(What::Code { bound: request.bound, challenge: asked.challenge }, text, grant);
             }
             Request::Token { header, body } if after.answer.issued() => {
                 let request = token::Request::read(header, body, &registry).expect("it was granted");
@@ -290,6 +321,17 @@ impl Judge {
     }
 }
 
+/// What a well-formed call of the token endpoint asks for, its client admitted.
+fn token_request(call: &Call) -> Option<token::Request> {
+    let Request::Token { header, body } = &call.request else { return None };
+    token::Request::read(header, body, &Registry::parse(&call.registry)?).ok()
+}
+
+/// 43 to 128 unreserved characters (RFC 7636 section 4.1).
+fn is_verifier(text: &[u8]) -> bool {
+    (43..=128).contains(&text.len()) && text.iter().all(|byte| UNRESERVED.contains(byte))
+}
+
 fn verdict(conditions: &[(&'static str, bool)]) -> Verdict {
     let failed: Vec<&'static str> =
         conditions.iter().filter(|condition| !condition.1).map(|condition| condition.0).collect();
@@ -334,6 +376,9 @@ fn expected_verdicts() -> Vec<String> {
         "exchange: run out",
         "exchange: exchanged before",
         "exchange: redirect not repeated",
+        "exchange: no verifier",
+        "exchange: verifier malformed",
+        "exchange: verifier of another digest",
         "exchange: no room",
         "refresh: not issued as a refresh token",
         "refresh: issued to another client",
@@ -371,6 +416,9 @@ struct Counts {
     /// Calls that showed a code a second time, and live tokens that they withdrew.
     second_showings: usize,
     withdrawn: usize,
+    /// Exchanges that yielded by a verifier, and those of a code without challenge that brought one.
+    by_verifier: usize,
+    needless_verifiers: usize,
 }
 
 #[test]
@@ -383,7 +431,10 @@ fn demand_3_holds_of_long_histories() {
     }
     println!("up to {longest} issues in a history, up to {} of them standing at once", counts.fullest);
     println!("{} codes shown a second time, {} live tokens withdrawn", counts.second_showings, counts.withdrawn);
+    println!("{} exchanged by a verifier, {} with a needless one", counts.by_verifier, counts.needless_verifiers);
     assert_eq!(counts.fullest, ROOM, "no history filled the store");
+    assert!(counts.by_verifier >= 1_000, "too few exchanges by a verifier");
+    assert!(counts.needless_verifiers >= 20, "too few exchanges with a needless verifier");
     assert!(counts.second_showings >= 1_000, "too few codes were shown a second time");
     assert!(counts.withdrawn >= 1_500, "too few tokens were withdrawn");
     counts.verdicts.require("verdicts on calls in histories", &expected_verdicts(), 20);
@@ -418,7 +469,7 @@ fn history(seed: u64, counts: &mut Counts) -> Judge {
         judge.hold(&drawn.call, &verdict, &after.answer);
         judge.hold_slots(&drawn.call, &world.store, &after);
         counts.verdicts.add(label(drawn.action.name(), &verdict, &after.answer));
-        counts.add(&judge, &drawn.call);
+        counts.add(&judge, &drawn.call, &verdict);
         judge.record(&drawn.call, &after);
         world.carry(drawn, after, &mut rng);
         counts.fullest = judge.standing(judge.latest).max(counts.fullest);
@@ -436,8 +487,12 @@ fn some_clients(seed: u64, rng: &mut Rng) -> Vec<sample::Client> {
 }
 
 impl Counts {
-    /// Counts a second showing that is about to be recorded.
-    fn add(&mut self, judge: &Judge, call: &Call) {
+    /// Counts a second showing or an exchange that is about to be recorded.
+    fn add(&mut self, judge: &Judge, call: &Call, verdict: &Verdict) {
+        if let Some((code, brought)) = judge.exchanged(call).filter(|_| *verdict == Verdict::Yields) {
+            self.by_verifier += usize::from(code.challenge().is_some());
+            self.needless_verifiers += usize::from(code.challenge().is_none() && brought);
+        }
         if judge.shown_again(call).is_some() {
             self.second_showings += 1;
             let withdrawn = judge.withdrawn_by(call);

@@ -235,7 +235,7 @@ fn bytes_of_a_free_slot() {
 fn kinds_and_clients_of_a_slot() {
     for number in 0..=255 {
         let held = Slot { client: 1, farm: 0, ..Slot::of(number, [9; 20], 0) };
-        let mut slots = vec![(held, (1..=5).contains(&number))];
+        let mut slots = vec![(held, (1..=7).contains(&number))];
         for kind in sample::KINDS {
             slots.push((Slot { kind, client: number, ..held }, number < 2));
             slots.push((Slot { kind, scope: number, ..held }, number > 0));
@@ -249,25 +249,30 @@ fn kinds_and_clients_of_a_slot() {
 }
 
 #[test]
-fn origin_of_a_slot() {
+fn last_bytes_of_a_slot() {
     for kind in sample::KINDS {
-        let token = kind == sample::ACCESS || kind == sample::REFRESH;
-        for at in 0..20 {
+        // How many of them may hold anything: an origin, a challenge, or none.
+        let free = match kind {
+            3 | 4 => 20,
+            6 | 7 => 32,
+            _ => 0,
+        };
+        for at in 0..32 {
             for byte in [1, 0x80, 0xff] {
                 let mut draft = draft(Action::Check);
                 draft.set_slot(300, Slot::of(kind, [9; 20], 0));
                 expect(&draft, "live");
                 draft.store[sample::slot_range(300).start + sample::ORIGIN + at] = byte;
-                expect(&draft, if token { "live" } else { "refusal 3" });
+                expect(&draft, if at < free { "live" } else { "refusal 3" });
             }
         }
     }
 }
 
 #[test]
-fn stores_of_slots_without_an_origin() {
+fn stores_of_earlier_layouts() {
     for action in Action::ALL {
-        for length in [17_927, 17_928, 17_929] {
+        for length in [17_927, 17_928, 17_929, 28_167, 28_168, 28_169] {
             let mut draft = draft(action);
             draft.store.truncate(length);
             expect(&draft, "refusal 3");

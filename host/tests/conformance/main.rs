@@ -4,9 +4,11 @@ mod support;
 
 mod basic_credentials;
 mod client_credentials;
+mod digest;
 mod header;
 mod history;
 mod lengths;
+mod pkce;
 mod random_calls;
 mod readings;
 mod refusals;

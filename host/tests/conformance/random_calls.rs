@@ -15,7 +15,7 @@ use crate::support::second_showing::second_showing;
 use crate::support::tally::Tally;
 use crate::support::world::{random_clients, Start, World};
 
-const SEQUENCES: usize = 6_160;
+const SEQUENCES: usize = 6_300;
 const CALLS: usize = 110;
 /// Each outcome and each reason must come up at least so often in all.
 const LEAST: usize = 25;
@@ -34,6 +34,9 @@ struct Counts {
     /// Calls that showed a code a second time, and how many of them cleared tokens.
     second_showings: usize,
     clearing: usize,
+    /// Codes that were issued with a challenge, and those that were exchanged by its verifier.
+    challenged: usize,
+    by_verifier: usize,
 }
 
 #[test]
@@ -70,6 +73,8 @@ fn both_programs_agree_on_random_calls() {
     assert!(counts.by_coded_header >= 50_000, "too few clients were admitted by form-coded credentials");
     assert!(counts.second_showings >= 8_000, "too few codes were shown a second time");
     assert!(counts.clearing >= 5_000, "too few second showings cleared tokens");
+    assert!(counts.challenged >= 30_000, "too few codes were issued with a challenge");
+    assert!(counts.by_verifier >= 15_000, "too few codes were exchanged by a verifier");
 }
 
 impl Counts {
@@ -82,6 +87,17 @@ impl Counts {
         self.by_coded_header += other.by_coded_header;
         self.second_showings += other.second_showings;
         self.clearing += other.clearing;
+        self.challenged += other.challenged;
+        self.by_verifier += other.by_verifier;
+    }
+
+    /// Counts the slots in which a call has put a code with a challenge, or spent one.
+    fn add_challenged(&mut self, before: &[u8], after: &[u8]) {
+        for (before, after) in sample::slots(before).zip(sample::slots(after)).filter(|(before, after)| before != after)
+        {
+            self.challenged += usize::from(after.has_challenge());
+            self.by_verifier += usize::from(before.has_challenge() && after.kind == sample::SPENT);
+        }
     }
 
     fn print(&self) {
@@ -89,6 +105,7 @@ impl Counts {
         println!("{} had nothing wrong put in, {} of them were granted or live", self.sound, self.granted);
         println!("{} got tokens by credentials with a % or + in the header", self.by_coded_header);
         println!("{} showed a code a second time, {} of them cleared tokens", self.second_showings, self.clearing);
+        println!("{} got a code with a challenge, {} exchanged one by its verifier", self.challenged, self.by_verifier);
     }
 }
 
@@ -137,6 +154,9 @@ fn one_call(world: &mut World, rng: &mut Rng, counts: &mut Counts) {
     if after.answer.refusal() == 0 && second_showing(&drawn.call, &drawn.store).is_some() {
         counts.second_showings += 1;
         counts.clearing += usize::from(!after.cleared.is_empty());
+    }
+    if after.answer.issued() {
+        counts.add_challenged(&drawn.store, &after.store);
     }
     if drawn.store == world.store {
         counts.carried += 1;

@@ -2,9 +2,9 @@
 
 use poplarchime_host::sample::{self, Client};
 
-use crate::support::host::{bad_request, counting, redirected, unauthorized, Authorized, Host, BASIC};
-
-const BARNAPP: &str = "response_type=code&client_id=barnapp";
+use crate::support::host::{
+    bad_request, counting, redirected, unauthorized, Authorized, Host, BARNAPP, BASIC, BY_BARNAPP,
+};
 
 fn code() -> String {
     sample::hex(&counting(0))
@@ -14,7 +14,8 @@ fn code() -> String {
 fn names_are_compared_after_decoding() {
     let mut host = Host::visit();
     let location = format!("https://barn.example/r?x=1&code={}&state=s", code());
-    let query = "response%5ftype=%63ode&client%5Fid=barnap%70&%73tate=s";
+    let query = "response%5ftype=%63ode&client%5Fid=barnap%70&%73tate=s\
+         &code%5Fchallenge=E9Melhoa2OwvFrEMTJguCHaoeK1t8URWbuGJSstw%2DcM&code_challenge%5fmethod=S%32%356";
     assert_eq!(host.authorize(query, 1, 1000, 0x00), redirected(&location));
 }
 
@@ -22,7 +23,7 @@ fn names_are_compared_after_decoding() {
 fn a_query_is_taken_as_it_stands() {
     let mut host = Host::visit();
     let missing = redirected("https://barn.example/r?x=1&error=invalid_request");
-    assert_eq!(host.authorize("?response_type=code&client_id=barnapp", 1, 1000, 0x00), missing);
+    assert_eq!(host.authorize(format!("?{BARNAPP}"), 1, 1000, 0x00), missing);
     assert_eq!(host.authorize("response_type=code;client_id=barnapp", 1, 1000, 0x00), Authorized::Refused(6));
 }
 
@@ -52,7 +53,7 @@ fn error_pages_and_dead_tokens_move_the_time_too() {
             1 => assert_eq!(host.check("nothing", 1600).live, 0),
             _ => assert_eq!(host.token("nonsense", "grant_type=x", 1600, 0x20), unauthorized(true)),
         }
-        let body = format!("grant_type=authorization_code&code={}&client_id=barnapp", code());
+        let body = format!("grant_type=authorization_code&code={}{BY_BARNAPP}", code());
         assert_eq!(host.token("", body, 1000, 0x20), bad_request("invalid_grant"));
     }
 }
@@ -73,7 +74,7 @@ fn a_bound_code_is_compared_with_the_redirect_registered_now() {
 #[test]
 fn a_handle_that_is_issued_again_is_a_new_code() {
     let mut host = Host::visit();
-    let body = format!("grant_type=authorization_code&code={}&client_id=barnapp", code());
+    let body = format!("grant_type=authorization_code&code={}{BY_BARNAPP}", code());
     for (clock, random, others) in [(1000, 0x20, 1), (1600, 0x60, 2), (2200, 0xa0, 3)] {
         host.authorize(BARNAPP, 1, clock, 0x00);
         assert_eq!(host.token("", &body, clock, random).status, 200);
@@ -119,7 +120,7 @@ fn names_that_the_grant_does_not_use_may_not_be_repeated_either() {
         let body = format!("grant_type=authorization_code&code={}&{repeated}", code());
         assert_eq!(host.token(BASIC, body, 1000, 0x20), bad_request("invalid_request"));
     }
-    for repeated in ["code=a&code=b", "redirect_uri=a&redirect_uri=b"] {
+    for repeated in ["code=a&code=b", "redirect_uri=a&redirect_uri=b", "code_verifier=a&code_verifier=b"] {
         let body = format!("grant_type=refresh_token&refresh_token={}&{repeated}", code());
         assert_eq!(host.token(BASIC, body, 1000, 0x20), bad_request("invalid_request"));
     }

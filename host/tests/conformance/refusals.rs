@@ -7,6 +7,7 @@ use poplarchime_host::sample::{self, Client, Slot};
 use crate::support::compare::{run_both, After};
 use crate::support::draft::{Action, Draft};
 use crate::support::faults::{faults, Fault, Step};
+use crate::support::pkce;
 use crate::support::rng::Rng;
 use crate::support::tally::Tally;
 
@@ -36,24 +37,30 @@ fn store() -> Vec<u8> {
             let scope = [9, 1, 1, 170, 8, 4][usize::from(client)];
             let origin = handle(client, sample::SPENT);
             let slot = Slot { client, farm: 5, scope, origin, ..Slot::of(kind, handle(client, kind), 1600) };
-            sample::set_slot(&mut store, place(client, kind), slot.turned(kind));
+            let slot = if slot.has_challenge() { slot.challenged(challenge(client)) } else { slot.turned(kind) };
+            sample::set_slot(&mut store, place(client, kind), slot);
         }
     }
     store
 }
 
 fn handle(client: u8, kind: u8) -> [u8; 20] {
-    std::array::from_fn(|at| (client * 40 + kind * 8).wrapping_add(at as u8))
+    std::array::from_fn(|at| (client * 40 + kind * 5).wrapping_add(at as u8))
 }
 
 fn place(client: u8, kind: u8) -> usize {
-    usize::from(4 + client * 5 + kind)
+    usize::from(4 + client * 7 + kind)
+}
+
+/// The challenge of a client's codes that have one.
+fn challenge(client: u8) -> [u8; 32] {
+    pkce::sound_pair(&mut Rng::new(client.into())).challenge
 }
 
 /// Requests with which nothing is wrong.
 fn sound_drafts(action: Action) -> Vec<Draft> {
     let (clients, store) = (clients(), store());
-    let random: [u8; 40] = std::array::from_fn(|at| 0x73 + at as u8);
+    let random: [u8; 40] = std::array::from_fn(|at| 0x71 + at as u8);
     let authorize = |client| {
         let mut draft = Draft::authorize(&clients, &store, NOW, client, &random[..20]);
         draft.params.push("state", "xyz");
@@ -61,15 +68,21 @@ fn sound_drafts(action: Action) -> Vec<Draft> {
     };
     let token = |client, kind| Draft::token(action, &clients, &store, NOW, place(client, kind), random);
     match action {
-        Action::Authorize => (0..3).map(authorize).collect(),
+        Action::Authorize => {
+            let mut with_challenge = authorize(0);
+            with_challenge.send_challenge(&challenge(0));
+            (0..3).map(authorize).chain([with_challenge]).collect()
+        }
         Action::Exchange => vec![
             token(0, sample::CODE),
             token(0, sample::BOUND_CODE),
+            token(0, sample::BOUND_CHALLENGED_CODE),
             token(1, sample::BOUND_CODE),
+            token(1, sample::CHALLENGED_CODE),
             token(2, sample::CODE),
             token(3, sample::BOUND_CODE),
-            token(4, sample::CODE),
-            token(5, sample::BOUND_CODE),
+            token(4, sample::CHALLENGED_CODE),
+            token(5, sample::BOUND_CHALLENGED_CODE),
         ],
         Action::Refresh => (0..6).map(|client| token(client, sample::REFRESH)).collect(),
         Action::ClientCredentials => {
@@ -164,6 +177,6 @@ fn the_first_reason_counts() {
         }
     }
     println!("{pairs} pairs of reasons, {clearing} of them clear tokens");
-    assert!(pairs > 450_000, "only {pairs} pairs");
-    assert!(clearing > 1_000, "only {clearing} pairs clear tokens");
+    assert!(pairs > 700_000, "only {pairs} pairs");
+    assert!(clearing > 5_000, "only {clearing} pairs clear tokens");
 }

@@ -5,7 +5,10 @@ use poplarchime_host::sample::{self, Client, Slot};
 
 use crate::support::call::{Call, Request};
 use crate::support::compare::run_both;
-use crate::support::host::{bad_request, counting, exchange_body, redirected, refresh_body, Authorized, Host};
+use crate::support::host::{
+    bad_request, counting, exchange_body, redirected, refresh_body, Authorized, Host, BARNAPP, BY_BARNAPP,
+};
+use crate::support::pkce;
 
 const LIMIT: u64 = 1 << 40;
 
@@ -19,12 +22,13 @@ fn whole_visit(clients: &[Client], number: usize) {
     let mut host = Host::new(clients);
     let id = String::from_utf8(client.id.clone()).unwrap();
     let by_id = if client.secret.is_none() { format!("&client_id={id}") } else { String::new() };
-    let Authorized::Redirected(location) = host.authorize(format!("response_type=code&client_id={id}"), 1, 1000, 0x00)
-    else {
+    let query = format!("response_type=code&client_id={id}{}", pkce::challenge_pieces(pkce::CHALLENGE));
+    let Authorized::Redirected(location) = host.authorize(query, 1, 1000, 0x00) else {
         panic!("no redirect for client {number}");
     };
     assert!(location.ends_with(&format!("code={}", sample::hex(&counting(0)))), "{location}");
-    assert_eq!(host.token(basic(client), exchange_body(&counting(0)) + &by_id, 1000, 0x20).status, 200);
+    let exchange = format!("{}{by_id}&code_verifier={}", exchange_body(&counting(0)), pkce::VERIFIER);
+    assert_eq!(host.token(basic(client), exchange, 1000, 0x20).status, 200);
     let answer = host.check(sample::hex(&counting(0x20)), 1000);
     let expected = CheckAnswer {
         live: 1,
@@ -79,7 +83,8 @@ fn the_longest_location_fits() {
     let redirect = format!("https://{}", "r".repeat(192));
     let client = Client { id: vec![b'~'; 32], ..Client::public("", &redirect, 1) };
     let mut host = Host::new(&[client]);
-    let query = format!("response_type=code&client_id={}&state={}", "~".repeat(32), "%7E".repeat(200));
+    let challenge = pkce::challenge_pieces(pkce::CHALLENGE);
+    let query = format!("response_type=code&client_id={}&state={}{challenge}", "~".repeat(32), "%7E".repeat(200));
     let location = format!("{redirect}?code={}&state={}", sample::hex(&counting(0)), "%7E".repeat(200));
     assert_eq!(location.len(), 853);
     assert_eq!(host.authorize(query, 1, 1000, 0x00), redirected(&location));
@@ -107,10 +112,11 @@ fn the_lowest_slot_of_a_handle_counts() {
 
 #[test]
 fn a_slot_that_has_run_out_hides_a_live_one() {
-    for kind in [sample::CODE, sample::BOUND_CODE, sample::ACCESS, sample::REFRESH] {
+    for kind in sample::KINDS.into_iter().filter(|&kind| kind != sample::SPENT) {
         let client = &sample::visit_clients()[0];
-        let redirect = "&redirect_uri=https://client.example.com/cb";
-        let live = Slot::of(kind, [7; 20], 2000);
+        let redirect = format!("&redirect_uri=https://client.example.com/cb&code_verifier={}", pkce::VERIFIER);
+        let code = Slot::of(kind, [7; 20], 2000);
+        let live = if code.has_challenge() { code.challenged(pkce::appendix_b().challenge) } else { code };
         let mut host = Host::visit();
         host.set_slot(2, live);
         host.set_slot(1, Slot { expiry: 1000, ..live });
@@ -121,7 +127,7 @@ fn a_slot_that_has_run_out_hides_a_live_one() {
                 assert_eq!(reply, bad_request("invalid_grant"));
             }
             _ => {
-                let reply = host.token(basic(client), exchange_body(&[7; 20]) + redirect, 1000, 0x20);
+                let reply = host.token(basic(client), exchange_body(&[7; 20]) + &redirect, 1000, 0x20);
                 assert_eq!(reply, bad_request("invalid_grant"));
             }
         }
@@ -133,7 +139,7 @@ fn a_slot_that_has_run_out_hides_a_live_one() {
             sample::ACCESS => assert_eq!(host.check(sample::hex(&[7; 20]), 999).farm, 99),
             sample::REFRESH => assert_eq!(host.token(basic(client), refresh_body(&[7; 20]), 999, 0x20).status, 200),
             _ => {
-                let reply = host.token(basic(client), exchange_body(&[7; 20]) + redirect, 999, 0x20);
+                let reply = host.token(basic(client), exchange_body(&[7; 20]) + &redirect, 999, 0x20);
                 assert_eq!(reply.status, 200);
                 assert_eq!(host.slot(0).farm, 99);
             }
@@ -155,16 +161,23 @@ fn a_strangers_slot_hides_ones_own() {
 }
 
 #[test]
-fn codes_of_both_kinds_are_looked_up_together() {
+fn codes_of_all_kinds_are_looked_up_together() {
     let mut host = Host::visit();
     let code = Slot::of(sample::CODE, [7; 20], 2000);
     host.set_slot(4, code);
     host.set_slot(2, Slot { kind: sample::BOUND_CODE, ..code });
+    host.set_slot(1, code.challenged(pkce::appendix_b().challenge));
+    host.set_slot(0, code.bound(true).challenged([9; 32]));
     let header = basic(&sample::visit_clients()[0]);
     assert_eq!(host.token(&header, exchange_body(&[7; 20]), 1000, 0x20), bad_request("invalid_grant"));
     let bound = exchange_body(&[7; 20]) + "&redirect_uri=https://client.example.com/cb";
-    assert_eq!(host.token(&header, bound, 1000, 0x20).status, 200);
-    assert_eq!(host.token(&header, exchange_body(&[7; 20]), 1000, 0x60).status, 200);
+    let proved = format!("{bound}&code_verifier={}", pkce::VERIFIER);
+    assert_eq!(host.token(&header, &proved, 1000, 0x20), bad_request("invalid_grant"), "another challenge");
+    host.set_slot(0, Slot::default());
+    assert_eq!(host.token(&header, &bound, 1000, 0x20), bad_request("invalid_grant"), "no verifier");
+    assert_eq!(host.token(&header, &proved, 1000, 0x20).status, 200);
+    assert_eq!(host.token(&header, &bound, 1000, 0x60).status, 200);
+    assert_eq!(host.token(&header, exchange_body(&[7; 20]), 1000, 0xa0).status, 200);
 }
 
 #[test]
@@ -192,10 +205,9 @@ fn the_last_second_of_time() {
     let mut host = Host::visit();
     sample::set_latest(&mut host.store, LIMIT);
     let location = format!("https://barn.example/r?x=1&code={}", sample::hex(&counting(0)));
-    let query = "response_type=code&client_id=barnapp";
-    assert_eq!(host.authorize(query, 1, LIMIT, 0x00), redirected(&location));
+    assert_eq!(host.authorize(BARNAPP, 1, LIMIT, 0x00), redirected(&location));
     assert_eq!(host.slot(0).expiry, LIMIT + 600);
-    let body = exchange_body(&counting(0)) + "&client_id=barnapp";
+    let body = exchange_body(&counting(0)) + BY_BARNAPP;
     assert_eq!(host.token("", body, 0, 0x20).status, 200);
     assert_eq!(host.check(sample::hex(&counting(0x20)), 0).seconds_left, 3600);
     assert_eq!(host.check(sample::hex(&counting(0x20)), LIMIT + 1).refusal, 4);
@@ -243,12 +255,12 @@ fn on_a_full_store_clashes_are_not_looked_for() {
     let mut host = Host::visit();
     host.set_slots(0..sample::SLOTS, Slot::of(sample::CODE, counting(0), 1001));
     let location = "https://barn.example/r?x=1&error=temporarily_unavailable";
-    assert_eq!(host.authorize("response_type=code&client_id=barnapp", 1, 1000, 0x00), redirected(location));
+    assert_eq!(host.authorize(BARNAPP, 1, 1000, 0x00), redirected(location));
     let header = basic(&sample::visit_clients()[0]);
     assert_eq!(host.token(&header, exchange_body(&counting(0)), 1000, 0x00).status, 503);
     // One second on, every slot has run out, but a handle in use is one all the same.
     let location = "https://barn.example/r?x=1&error=server_error";
-    assert_eq!(host.authorize("response_type=code&client_id=barnapp", 1, 1001, 0x00), redirected(location));
+    assert_eq!(host.authorize(BARNAPP, 1, 1001, 0x00), redirected(location));
 }
 
 #[test]

@@ -2,7 +2,7 @@
 
 use poplarchime_host::sample::Client;
 
-use crate::support::host::{bad_request, granted, redirected, unauthorized, Authorized, Host, BASIC};
+use crate::support::host::{bad_request, granted, redirected, unauthorized, Authorized, Host, BARNAPP, BASIC};
 
 const CODE: &str = "000102030405060708090a0b0c0d0e0f10111213";
 
@@ -28,14 +28,13 @@ fn section_2_3_1_credentials_in_the_header_and_in_the_body() {
 #[test]
 fn section_3_1_names_without_value_unknown_names_and_repeats() {
     let mut host = host();
-    let query = "response_type=code&client_id=barnapp";
     let code = redirected(&format!("https://barn.example/r?x=1&code={CODE}"));
-    assert_eq!(host.authorize(format!("{query}&scope=&state=&redirect_uri="), 1, 1000, 0), code);
+    assert_eq!(host.authorize(format!("{BARNAPP}&scope=&state=&redirect_uri=&code_challenge="), 1, 1000, 0), code);
     let mut host = Host::visit();
-    assert_eq!(host.authorize(format!("{query}&nonce=1&nonce=2"), 1, 1000, 0), code);
+    assert_eq!(host.authorize(format!("{BARNAPP}&nonce=1&nonce=2"), 1, 1000, 0), code);
     let repeated = redirected("https://barn.example/r?x=1&error=invalid_request");
-    assert_eq!(host.authorize(format!("{query}&response_type=code"), 1, 1000, 0), repeated);
-    assert_eq!(host.authorize(format!("{query}&client_id=barnapp"), 1, 1000, 0), Authorized::Refused(6));
+    assert_eq!(host.authorize(format!("{BARNAPP}&response_type=code"), 1, 1000, 0), repeated);
+    assert_eq!(host.authorize(format!("{BARNAPP}&client_id=barnapp"), 1, 1000, 0), Authorized::Refused(6));
 }
 
 #[test]

@@ -5,11 +5,11 @@ use poplarchime_host::answers::CheckAnswer;
 use poplarchime_host::sample::{self, Slot};
 
 use crate::support::host::{
-    bad_request, counting, exchange_body, redirected, refresh_body, unauthorized, Authorized, Host, BASIC,
+    bad_request, counting, exchange_body, redirected, refresh_body, unauthorized, Authorized, Host, BARNAPP, BASIC,
+    BY_BARNAPP,
 };
+use crate::support::pkce;
 
-const BARNAPP: &str = "response_type=code&client_id=barnapp";
-const BY_BARNAPP: &str = "&client_id=barnapp";
 /// The handle of the code that is shown again.
 const CODE: [u8; 20] = [7; 20];
 /// When it would have run out.
@@ -114,8 +114,8 @@ fn a_clients_token_for_itself_is_its_own_origin() {
 fn a_code_has_no_origin_in_a_slot_where_a_token_lay() {
     let mut host = Host::visit();
     host.set_slot(0, Slot { expiry: NOW, ..token(sample::REFRESH) });
-    host.authorize(BARNAPP, 1, NOW, 0x00);
-    assert_eq!(host.slot(0), Slot { client: 1, farm: 7, ..Slot::of(sample::CODE, counting(0), NOW + 600) });
+    host.authorize("response_type=code&client_id=s6BhdRkqt3&scope=power", 1, NOW, 0x00);
+    assert_eq!(host.slot(0), Slot { farm: 7, ..Slot::of(sample::CODE, counting(0), NOW + 600) });
 }
 
 // ---- what a second showing clears
@@ -243,6 +243,8 @@ fn an_unspent_code_of_the_handle_stops_the_search() {
         Slot { client: 1, expiry: 0, ..code },
         Slot { kind: sample::BOUND_CODE, ..code },
         Slot { kind: sample::BOUND_CODE, expiry: NOW, ..code },
+        code.challenged([1; 32]),
+        Slot { expiry: NOW, ..code.bound(true).challenged([1; 32]) },
     ] {
         for number in [SPENT - 1, SPENT + 1, TOKEN + 1] {
             let mut host = host();
@@ -386,7 +388,8 @@ fn a_spent_codes_slot_is_taken_again_once_it_has_run_out() {
     host.set_slot(300, spent());
     assert_eq!(host.authorize(BARNAPP, 1, EXPIRY - 1, 0x00), sent_back("temporarily_unavailable"));
     host.authorize(BARNAPP, 1, EXPIRY, 0x00);
-    assert_eq!(host.slot(300), Slot { client: 1, farm: 7, ..Slot::of(sample::CODE, counting(0), EXPIRY + 600) });
+    let code = Slot { client: 1, farm: 7, ..Slot::of(sample::CODE, counting(0), EXPIRY + 600) };
+    assert_eq!(host.slot(300), code.challenged(pkce::appendix_b().challenge));
     assert_eq!(host.authorize(BARNAPP, 1, EXPIRY, 0x20), sent_back("temporarily_unavailable"), "full again");
 }
 

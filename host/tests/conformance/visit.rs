@@ -3,7 +3,9 @@
 use poplarchime_host::answers::CheckAnswer;
 use poplarchime_host::sample::{self, Slot};
 
-use crate::support::host::{bad_request, counting, granted, redirected, unauthorized, Authorized, Host, BASIC};
+use crate::support::host::{
+    bad_request, counting, granted, redirected, unauthorized, Authorized, Host, BARNAPP, BASIC, BY_BARNAPP,
+};
 
 const QUERY: &str =
     "response_type=code&client_id=s6BhdRkqt3&state=xyz&redirect_uri=https%3A%2F%2Fclient%2Eexample%2Ecom%2Fcb";
@@ -127,10 +129,10 @@ fn scopes_in_any_order() {
 #[test]
 fn the_state_is_written_as_a_form() {
     let mut host = Host::visit();
-    let query = "response_type=code&client_id=barnapp&state=+%25%26%2b%78*-._~";
+    let query = format!("{BARNAPP}&state=+%25%26%2b%78*-._~");
     let location = "https://barn.example/r?x=1&error=access_denied&state=+%25%26%2Bx*-._%7E";
     assert_eq!(host.authorize(query, 0, 1000, 0x00), redirected(location));
-    let query = "response_type=code&client_id=barnapp&state=%C2%A3%E2%82%AC";
+    let query = format!("{BARNAPP}&state=%C2%A3%E2%82%AC");
     let location = "https://barn.example/r?x=1&error=invalid_request";
     assert_eq!(host.authorize(query, 0, 1000, 0x00), redirected(location));
 }
@@ -145,7 +147,7 @@ fn malformed_forms() {
 #[test]
 fn an_empty_state_is_none() {
     let mut host = Host::visit();
-    let query = "response_type=code&client_id=barnapp&state=&state=x";
+    let query = format!("{BARNAPP}&state=&state=x");
     let location = "https://barn.example/r?x=1&error=access_denied&state=x";
     assert_eq!(host.authorize(query, 0, 1000, 0x00), redirected(location));
 }
@@ -154,12 +156,12 @@ fn an_empty_state_is_none() {
 fn barnapp_denied_without_state() {
     let mut host = Host::visit();
     let location = "https://barn.example/r?x=1&error=access_denied";
-    assert_eq!(host.authorize("response_type=code&client_id=barnapp", 0, 1000, 0x00), redirected(location));
+    assert_eq!(host.authorize(BARNAPP, 0, 1000, 0x00), redirected(location));
 }
 
 #[test]
 fn a_state_of_200_bytes_passes() {
-    let query = |length| format!("response_type=code&client_id=barnapp&state={}", "s".repeat(length));
+    let query = |length| format!("{BARNAPP}&state={}", "s".repeat(length));
     let mut host = Host::visit();
     let location = format!("https://barn.example/r?x=1&code={CODE}&state={}", "s".repeat(200));
     assert_eq!(host.authorize(query(200), 1, 1000, 0x00), redirected(&location));
@@ -178,8 +180,8 @@ fn a_body_of_4096_bytes_is_read() {
 fn the_public_client_names_itself() {
     let mut host = Host::visit();
     let location = format!("https://barn.example/r?x=1&code={CODE}");
-    assert_eq!(host.authorize("response_type=code&client_id=barnapp", 1, 1000, 0x00), redirected(&location));
-    let body = format!("grant_type=authorization_code&code={CODE}&client_id=barnapp");
+    assert_eq!(host.authorize(BARNAPP, 1, 1000, 0x00), redirected(&location));
+    let body = format!("grant_type=authorization_code&code={CODE}{BY_BARNAPP}");
     assert_eq!(host.token("Basic YmFybmFwcDo=", &body, 1000, 0x20), unauthorized(true));
     assert_eq!(host.token("", format!("{body}&client_secret=x"), 1000, 0x20), unauthorized(false));
     let reply = TOKENS.replace("power peak bill", "power");
@@ -220,7 +222,7 @@ fn a_refused_try_spends_no_code() {
 #[test]
 fn pieces_part_before_they_are_decoded() {
     let mut host = Host::visit();
-    let query = "response_type=code&client_id=barnapp&state=a%26client_id%3Ds6BhdRkqt3";
+    let query = format!("{BARNAPP}&state=a%26client_id%3Ds6BhdRkqt3");
     let location = "https://barn.example/r?x=1&error=access_denied&state=a%26client_id%3Ds6BhdRkqt3";
     assert_eq!(host.authorize(query, 0, 1000, 0x00), redirected(location));
 }

@@ -3,10 +3,9 @@ use borrow.Author.Needs.{needs}
 use mathlib.Core.Path.{_≡_, sym, ap, _∙_}
 use Rattle.client_registry.specs.Registry.{clientsOf}
 use Rattle.token_store.specs.Store.{decode}
-use Rattle.protocol.specs.declared.Reading.{Reading}
 use Rattle.protocol.specs.Authorization.{readAuthorization}
 use Rattle.authorization_query.specs.declared.QueryReading.{QueryReading}
-use Rattle.authorization_query.specs.Reading.{readingOf}
+use Rattle.authorization_query.specs.Reading.{requestOf}
 use Rattle.authorization_endpoint.proofs.Locations.{query-random, reading-served, page-served}
 use Rattle.authorization_endpoint.proofs.serve.Statement.{statement}
 use Rattle.authorization_endpoint.proofs.serve.Tie as tie
@@ -19,8 +18,8 @@ start c = entry (c .before)
 
 -- the query is read so
 read : (c : tie.After-read-query) (r : QueryReading) → c .read-query .result ≡ r
-    → let a = start c .args in readingOf r ≡ readAuthorization (clientsOf (a .registry .now)) (a .query .now) (a .decision) (a .farm)
-read c r e = ap readingOf (sym e) ∙ c .read-query .ensures .reading
+    → let a = start c .args in requestOf r ≡ readAuthorization (clientsOf (a .registry .now)) (a .query .now) (a .decision) (a .farm) .request
+read c r e = ap requestOf (sym e) ∙ c .read-query .ensures .request
 
 answer-requires : tie.Need-answer-requires
 answer-requires c κs =
@@ -31,7 +30,7 @@ answer-requires c κs =
     let asked = query-random (clientsOf (a .registry .now)) (a .query .now) (a .decision) (a .farm) in (
       s .pre .0,
       at .read-query .ensures .known (asking .asking .given .0 .0) (asking .asking .given .1),
-      rw (← ap (λ (r : Reading). r .request) (read at _ (asking .asking .given .1))) at asked,
+      rw (← (read at _ (asking .asking .given .1))) at asked,
       s .pre .1,
       s .pre .2,
     )

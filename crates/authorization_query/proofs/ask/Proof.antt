@@ -48,8 +48,14 @@ scopeIn s = scopeAsked (formValue (queryIn s) (bytes "scope"))
 
 -- ---- the tests
 
-valid : (c : tie.Else1) → isInvalidRequest (queryIn (start c)) ≡ false
-valid c = sym (c .before .is-invalid-request .ensures) ∙ c .if1 .left
+invalid : (c : tie.After-is-invalid-request) → let s = c .before .before .before in isInvalidRequest (clientIn s) (queryIn s) ≡ c .is-invalid-request .result
+invalid c =
+    let s = c .before .before .before in
+    ap (λ (n : ℕ). isInvalidRequest (clientAt (clientsOf (s .args .registry .now)) n) (queryIn s)) (sym (s .pre .1 .number))
+    ∙ sym (c .is-invalid-request .ensures)
+
+valid : (c : tie.Else1) → isInvalidRequest (clientIn (start c)) (queryIn (start c)) ≡ false
+valid c = invalid (c .before) ∙ c .if1 .left
 
 other : (c : tie.After-is-once) → isOtherType (queryIn (start (sound c))) ≡ not (c .is-once .result)
 unfolding isOtherType
@@ -75,7 +81,7 @@ beyond c =
 
 returns : tie.Need-returns
 unfolding redirectReasons
-returns c = asked-by _ _ _ _ (stop (sym (c .before .is-invalid-request .ensures) ∙ c .if1 .taken))
+returns c = asked-by _ _ _ _ (stop (invalid (c .before) ∙ c .if1 .taken))
 
 returns-2 : tie.Need-returns-2
 unfolding redirectReasons

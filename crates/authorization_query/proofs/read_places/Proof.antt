@@ -100,15 +100,24 @@ ask-requires c κs = let client = found (c .before .before .before) in (asking c
 
 returns-4 : tie.Need-returns-4
 returns-4 c =
-    let agreed = c .before .before in
+    let agreed = c .before .before .before in
     let past = agreed .before .before in
     let client = found (past .before) in
     let s = asking client in
     let state = s .pre .1 .stands .at 4 (lit< tt) in
+    let challenge = s .pre .1 .stands .at 5 (lit< tt) in
     read-client (registryIn s) (queryIn s) _ _ _ (good-query _ _ (s .pre .1)) (once past)
     (other (agreed .before) ∙ agreed .if2 .left)
-    (c .before .ask .ensures)
-    (record { entry = its client .entry; number = its client .number; short = s .pre .1 .short; within = state .within; state = state .value })
+    (c .before .before .ask .ensures)
+    (record {
+      entry = its client .entry;
+      number = its client .number;
+      short = s .pre .1 .short;
+      within = state .within;
+      state = state .value;
+      challengeWithin = challenge .within;
+      challenge = challenge .value;
+    })
 
 pub read-places-spec : {M : Type 1} → statement M
 read-places-spec =
@@ -125,5 +134,6 @@ read-places-spec =
     is-bad-redirect-requires
     returns-3
     ask-requires
+    (λ c. search needs)
     (λ c. search needs)
     returns-4)

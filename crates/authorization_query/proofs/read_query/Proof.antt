@@ -11,7 +11,7 @@ use Rattle.authorization_query.proofs.Reasons.{too-long, malformed, rea
 use Rattle.authorization_query.proofs.read_query.Statement.{statement}
 use Rattle.authorization_query.proofs.read_query.Tie as tie
 
-names : Known (bytes "response_type&client_id&redirect_uri&scope&state") queryNames
+names : Known (bytes "response_type&client_id&redirect_uri&scope&state&code_challenge&code_challenge_method") queryNames
 unfolding distinct every same splitOn grow
 names = record { parted = refl; apart = refl; few = refl }
 

@@ -12,8 +12,8 @@ use Rattle.granting.proofs.Plans.{refuses}
 use Rattle.granting.proofs.grant.Statement.{statement}
 use Rattle.granting.proofs.grant.Tie as tie
 
-abbrev start : tie.After-presented → tie.Start
-start c = c .before .before .before
+abbrev start : tie.After-challenge → tie.Start
+start c = c .before .before .before .before
 
 -- what each grant asks for, by the kind of request
 allowed : (s : tie.Start) {q : Request} → s .args .reading .request ≡ q

@@ -2,7 +2,7 @@
 -- tokens; where one is found, a refusal leaves the slots. Past the tests the code that was found is spent.
 use borrow.Author.Needs.{needs}
 use mathlib.Core.Path.{_≡_, sym, ap, ap₂, _∙_}
-use mathlib.Core.Bool.{not, _&&_}
+use mathlib.Core.Bool.{Bool, not, _&&_}
 use mathlib.Core.List.{List}
 use Prim.Native.Nat.{ℕ}
 use lib.Dec.{leb}
@@ -11,7 +11,7 @@ use Rattle.token_store.specs.Store.{decode, withSlots, spentCode, isBoundCode}
 use Rattle.token_store.specs.declared.Slot.{Slot}
 use Rattle.token_store.specs.declared.Sought.the-variants.{Code}
 use Rattle.protocol.specs.declared.Decision.{Decision}
-use Rattle.protocol.specs.Granting.{Plan, firstHandle, secondHandle, shownSlot, room, anyTaken, exchangePlan}
+use Rattle.protocol.specs.Granting.{Plan, firstHandle, secondHandle, shownSlot, room, isUnverified, anyTaken, exchangePlan}
 use Rattle.protocol.proofs.Reasons.{none, stop, pass}
 use Rattle.granting.specs.Granted.{spentOn}
 use Rattle.granting.proofs.Plans.{Own, own-found, own-none, found-keeps, Past, refuses, grants}
@@ -25,7 +25,7 @@ abbrev slotsOf : tie.Start → List Slot
 slotsOf s = decode (s .args .store .now) .slots
 
 abbrev planAt : tie.Start → Plan
-planAt s = exchangePlan (s .args .t) (slotsOf s) (s .args .random .now) (s .args .presented) (s .args .request)
+planAt s = exchangePlan (s .args .t) (slotsOf s) (s .args .random .now) (s .args .presented) (s .args .answered) (s .args .request)
 
 -- ---- the client's own code is found
 
@@ -49,18 +49,23 @@ code c = c .slot-at .ensures ∙ sym (own (found c) .first .taken)
 
 -- ---- it is not bound, or its redirect address came again
 
-missed : (c : tie.After-slot-at)
-    → let s = looked (found c) in
+abbrev told : tie.After-is-bound-code → tie.After-slot-at
+told c = c .before
+
+missed : (c : tie.After-is-bound-code)
+    → let s = looked (found (told c)) in
     (isBoundCode (shownSlot Code (s .args .presented) (slotsOf s)) && not (s .args .request .again))
-    ≡ (isBoundCode (c .slot-at .result) && not (s .args .request .again))
-missed c = ap (λ (s : Slot). isBoundCode s && not (looked (found c) .args .request .again)) (sym (code c))
+    ≡ (c .is-bound-code .result && not (s .args .request .again))
+missed c =
+    ap (λ (b : Bool). b && not (looked (found (told c)) .args .request .again))
+    (ap isBoundCode (sym (code (told c))) ∙ sym (c .is-bound-code .ensures))
 
 abbrev read : tie.Else1 → tie.After-slot-at
-read c = c .before .before .before
+read c = told (c .before .before)
 
 past-address : (c : tie.Else1) {d : Decision} → Past 2 (planAt (looked (found (read c)))) d
 unfolding exchangePlan
-past-address c f = past-own (found (read c)) (pass (missed (read c) ∙ c .if1 .left) f)
+past-address c f = past-own (found (read c)) (pass (missed (c .before .before) ∙ c .if1 .left) f)
 
 -- a refusal leaves the slots
 kept : (c : tie.After-i) → let s = looked c in decode (s .args .store .now) ≡ withSlots (decode (s .args .store .now)) (planAt s .denied)
@@ -69,29 +74,45 @@ kept c =
     let s = looked c in
     ap (withSlots (decode (s .args .store .now))) (found-keeps (s .args .t) (s .args .request .client) (s .args .presented) (slotsOf s) (own c .first .some))
 
+-- ---- it has no challenge, or the one that is answered
+
+unverified : (c : tie.After-is-unverified)
+    → let s = looked (found (read (c .before))) in
+    isUnverified (s .args .answered) (shownSlot Code (s .args .presented) (slotsOf s)) ≡ c .is-unverified .result
+unverified c =
+    let s = looked (found (read (c .before))) in
+    ap (isUnverified (s .args .answered)) (sym (code (read (c .before)))) ∙ sym (c .is-unverified .ensures)
+
+abbrev shownIn : tie.Else2 → tie.After-slot-at
+shownIn c = read (c .before .before)
+
+past-verifier : (c : tie.Else2) {d : Decision} → Past 3 (planAt (looked (found (shownIn c)))) d
+unfolding exchangePlan
+past-verifier c f = past-address (c .before .before) (pass (unverified (c .before) ∙ c .if2 .left) f)
+
 -- ---- there is room besides it
 
-abbrev sound : tie.After-has-room → tie.Else1
+abbrev sound : tie.After-has-room → tie.Else2
 sound c = c .before .before
 
 abbrev begun : tie.After-has-room → tie.Start
-begun c = looked (found (read (sound c)))
+begun c = looked (found (shownIn (sound c)))
 
 full : (c : tie.After-has-room)
     → let a = begun c .args in
     not (leb 2 (room (a .t) (slotsOf (begun c)))) ≡ not (c .has-room .result)
 full c = ap not (sym (c .has-room .ensures))
 
-past-room : (c : tie.Else2) {d : Decision} → Past 3 (planAt (begun (c .before))) d
+past-room : (c : tie.Else3) {d : Decision} → Past 4 (planAt (begun (c .before))) d
 unfolding exchangePlan
-past-room c f = past-address (sound (c .before)) (pass (full (c .before) ∙ c .if2 .left) f)
+past-room c f = past-verifier (sound (c .before)) (pass (full (c .before) ∙ c .if3 .left) f)
 
 -- ---- no handle is in use, and they differ
 
 abbrev drawn : tie.After-any-clash → tie.After-handle-at2
 drawn c = c .before .before .before .before
 
-abbrev roomy : tie.After-any-clash → tie.Else2
+abbrev roomy : tie.After-any-clash → tie.Else3
 roomy c = drawn c .before .before
 
 taken : (c : tie.After-any-clash)
@@ -121,40 +142,49 @@ slot-at-requires c κs = let at = c .before .before in (looked at .pre .0, own a
 returns-2 : tie.Need-returns-2
 unfolding exchangePlan
 returns-2 c =
-    let shown = c .before .before .before .before in
-    refuses (past-own (found shown) (stop (missed shown ∙ c .before .if1 .taken))) (c .refused2 .ensures) (kept (found shown))
+    let bound = c .before .before .before in
+    let shown = told bound in
+    refuses (past-own (found shown) (stop (missed bound ∙ c .before .if1 .taken))) (c .refused2 .ensures) (kept (found shown))
 
 returns-3 : tie.Need-returns-3
 unfolding exchangePlan
 returns-3 c =
     let tested = c .before .before in
-    refuses (past-address (sound tested) (stop (full tested ∙ c .before .if2 .taken))) (c .refused3 .ensures) (kept (found (read (sound tested))))
-
-any-clash-requires : tie.Need-any-clash-requires
-any-clash-requires c κs = let roomy = c .before .before .before .before .before in looked (found (read (sound (roomy .before)))) .pre .0
+    refuses (past-address (tested .before) (stop (unverified tested ∙ c .before .if2 .taken))) (c .refused3 .ensures)
+    (kept (found (read (tested .before))))
 
 returns-4 : tie.Need-returns-4
 unfolding exchangePlan
 returns-4 c =
     let tested = c .before .before in
-    let code = found (read (sound (roomy tested .before))) in
-    refuses (past-room (roomy tested) (stop (taken tested ∙ c .before .if3 .taken))) (c .refused4 .ensures) (kept code)
+    refuses (past-verifier (sound tested) (stop (full tested ∙ c .before .if3 .taken))) (c .refused4 .ensures)
+    (kept (found (shownIn (sound tested))))
 
-spend-requires : tie.Need-spend-requires
-spend-requires c κs =
-    let at = found (read (sound (roomy (c .before .before) .before))) in
-    (looked at .pre .0, looked at .pre .1, own at .first .below)
+any-clash-requires : tie.Need-any-clash-requires
+any-clash-requires c κs = let roomy = c .before .before .before .before .before in looked (found (shownIn (sound (roomy .before)))) .pre .0
 
 returns-5 : tie.Need-returns-5
 unfolding exchangePlan
 returns-5 c =
+    let tested = c .before .before in
+    let code = found (shownIn (sound (roomy tested .before))) in
+    refuses (past-room (roomy tested) (stop (taken tested ∙ c .before .if4 .taken))) (c .refused5 .ensures) (kept code)
+
+spend-requires : tie.Need-spend-requires
+spend-requires c κs =
+    let at = found (shownIn (sound (roomy (c .before .before) .before))) in
+    (looked at .pre .0, looked at .pre .1, own at .first .below)
+
+returns-6 : tie.Need-returns-6
+unfolding exchangePlan
+returns-6 c =
     let spent = c .before .before .before in
     let tested = spent .before .before .before in
     let made = drawn tested in
-    let shown = read (sound (roomy tested .before)) in
+    let shown = shownIn (sound (roomy tested .before)) in
     let a = looked (found shown) .args in
     let here : Slot = shownSlot Code (a .presented) (slotsOf (looked (found shown))) in
-    grants (past-room (roomy tested) (pass (taken tested ∙ spent .before .before .if3 .left) none))
+    grants (past-room (roomy tested) (pass (taken tested ∙ spent .before .before .if4 .left) none))
     (c .issued .ensures ∙ rw (code shown))
     (spent .spend .ensures
     ∙ (λ j. withSlots (decode (a .store .now))
@@ -176,6 +206,7 @@ grant-exchange-spec =
     returns
     slot-at-requires
     (λ c κs. search needs)
+    (λ c κs. search needs)
     (λ c. search needs)
     returns-2
     (λ c κs. search needs)
@@ -185,12 +216,16 @@ grant-exchange-spec =
     (λ c κs. search needs)
     (λ c κs. search needs)
     (λ c. search needs)
+    returns-4
+    (λ c κs. search needs)
+    (λ c κs. search needs)
+    (λ c. search needs)
     (λ c. search needs)
     any-clash-requires
     (λ c κs. search needs)
     (λ c. search needs)
-    returns-4
+    returns-5
     spend-requires
     (λ c κs. search needs)
     (λ c. search needs)
-    returns-5)
+    returns-6)

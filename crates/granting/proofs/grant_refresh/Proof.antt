@@ -4,12 +4,12 @@ use mathlib.Core.Path.{_≡_, refl, sym, ap, _∙_}
 use mathlib.Core.Bool.{not}
 use mathlib.Core.List.{List}
 use lib.ListN.{take}
-use Rattle.token_store.specs.Store.{decode}
+use Rattle.token_store.specs.Store.{decode, kindAccess, originOf}
 use Rattle.token_store.specs.declared.Slot.{Slot}
 use Rattle.token_store.specs.declared.Sought.the-variants.{Refresh}
-use Rattle.protocol.specs.Requests.{fits}
+use Rattle.protocol.specs.Requests.{fits, scopeGiven}
 use Rattle.protocol.specs.declared.Decision.{Decision}
-use Rattle.protocol.specs.Granting.{Plan, shownSlot, refreshPlan}
+use Rattle.protocol.specs.Granting.{Plan, firstHandle, shownSlot, tokenOn, refreshPlan}
 use Rattle.protocol.proofs.Reasons.{stop, pass, ends-first}
 use Rattle.granting.proofs.Plans.{Own, own-found, own-none, Past, refuses, follows-later}
 use Rattle.granting.proofs.grant_refresh.Statement.{statement}
@@ -60,6 +60,25 @@ past-scope : (c : tie.Else1) {d : Decision} → Past 2 (planAt (looked (found (r
 unfolding refreshPlan
 past-scope c f = past-own (found (read c)) (pass (fitting (c .before) ∙ c .if1 .left) f)
 
+-- ---- what is issued on it
+
+abbrev handled : tie.After-token-on → tie.After-handle-at
+handled c = c .before .before
+
+issued : (c : tie.After-token-on)
+    → let s = looked (found (read (handled c .before .before))) in
+    let shown = shownSlot Refresh (s .args .presented) (slotsOf s) in
+    c .token-on .result
+    ≡ tokenOn shown (originOf shown) (s .args .t) kindAccess (firstHandle (s .args .random .now)) (scopeGiven (s .args .request .scope) (shown .scope))
+issued c =
+    let drawn = handled c in
+    let given = drawn .before in
+    let s = looked (found (read (given .before))) in
+    let shown = token (read (given .before)) in
+    let origin = c .before .origin .ensures ∙ ap originOf shown in
+    let scope = given .scope-given .ensures ∙ ap (λ (x : Slot). scopeGiven (s .args .request .scope) (x .scope)) shown in
+    c .token-on .ensures ∙ λ j. tokenOn (shown j) (origin j) (s .args .t) kindAccess (drawn .handle-at .ensures j) (scope j)
+
 -- ---- the needs
 
 returns : tie.Need-returns
@@ -80,17 +99,16 @@ returns-2 c =
     refuses (past-own (found (tested .before)) (stop (fitting tested ∙ c .before .if1 .taken))) (c .refused2 .ensures) refl
 
 grant-access-requires : tie.Need-grant-access-requires
-grant-access-requires c κs = looked (found (read (c .before .before .before .before .before))) .pre .0
+grant-access-requires c κs = looked (found (read (handled (c .before) .before .before))) .pre .0
 
 returns-3 : tie.Need-returns-3
 unfolding refreshPlan
 returns-3 c =
     let done = c .before .before in
-    let handled = done .before .before .before .before in
-    let given = handled .before in
-    let asked = looked (found (read (given .before))) in
-    follows-later (take 2 (planAt asked .reasons)) (past-scope (given .before) (ends-first _))
-    (rw (done .before .before .token-on .ensures, handled .handle-at .ensures, given .scope-given .ensures, token (read (given .before))) at (done .grant-access .ensures))
+    let made = done .before .before in
+    let asked = looked (found (read (handled made .before .before))) in
+    follows-later (take 2 (planAt asked .reasons)) (past-scope (handled made .before .before) (ends-first _))
+    (rw (issued made) at (done .grant-access .ensures))
 
 pub grant-refresh-spec : {M : Type 1} → statement M
 grant-refresh-spec =
@@ -107,6 +125,7 @@ grant-refresh-spec =
     (λ c κs. search needs)
     (λ c. search needs)
     returns-2
+    (λ c κs. search needs)
     (λ c κs. search needs)
     (λ c κs. search needs)
     (λ c κs. search needs)

@@ -1,4 +1,4 @@
--- A code that is missing is refused; of one that came the text is read as a handle.
+-- A code that is missing is refused; of one that came the text is read as a handle, and the verifier as the answer to a challenge.
 use borrow.Author.Needs.{needs}
 use mathlib.Core.Path.{sym, _∙_}
 use lib.Dec.{lit<}
@@ -19,10 +19,11 @@ returns c =
 
 returns-2 : tie.Need-returns-2
 returns-2 c =
-    let e = c .before .before .before in
+    let once = c .before .before in
+    let e = once .before .before .before in
     let there = sym (e .before .is-missing .ensures) ∙ e .if1 .left in
-    let again = rw (c .before .redirect2 .ensures) at (c .is-once .ensures) in
-    code-there (past e .pre .stands) _ _ there _ (c .before .before .handle-presented .ensures) _ again
+    let again = rw (once .before .redirect2 .ensures) at (once .is-once .ensures) in
+    code-there (past e .pre .stands) _ _ there _ (once .before .before .handle-presented .ensures) _ again _ (c .challenge-answered .ensures)
 
 pub read-exchange-spec : {M : Type 1} → statement M
 read-exchange-spec =
@@ -36,4 +37,6 @@ read-exchange-spec =
     (λ c κs. (past c .pre .stands .at 3 (lit< tt) .within, past c .pre .short))
     (λ c κs. search needs)
     (λ c κs. past (c .before .before) .pre .stands .at 4 (lit< tt) .within)
+    (λ c. search needs)
+    (λ c κs. let s = past (c .before .before .before .before) in (s .pre .stands .at 7 (lit< tt) .within, s .pre .short))
     returns-2)

@@ -16,9 +16,10 @@ returns c =
 
 returns-2 : tie.Need-returns-2
 returns-2 c =
-    let e = c .before .before in
+    let scope = c .before in
+    let e = scope .before .before in
     let there = sym (e .before .is-missing .ensures) ∙ e .if1 .left in
-    token-there (start (e .before) .pre .1) _ there _ (c .before .handle-presented .ensures) _ (c .scope-asked .ensures)
+    token-there (start (e .before) .pre .1) _ there _ (scope .before .handle-presented .ensures) _ (scope .scope-asked .ensures) _ (c .no-challenge .ensures)
 
 pub read-refresh-spec : {M : Type 1} → statement M
 read-refresh-spec =
@@ -31,4 +32,5 @@ read-refresh-spec =
     returns
     (λ c κs. (start (c .before) .pre .1 .at 5 (lit< tt) .within, start (c .before) .pre .0))
     (λ c κs. (start (c .before .before) .pre .1 .at 6 (lit< tt) .within, start (c .before .before) .pre .0))
+    (λ c κs. search needs)
     returns-2)

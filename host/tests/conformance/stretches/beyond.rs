@@ -4,6 +4,7 @@ use poplarchime_host::program::EXPORTS;
 use poplarchime_host::sample::{self, Slot};
 
 use super::plain;
+use crate::support::host::BARNAPP;
 
 const TOKEN: [u8; 20] = [0xef; 20];
 /// What may stand behind: marks, digits that a cut escape would take, plain bytes.
@@ -45,14 +46,15 @@ fn behind_a_query() {
     for length in 0..=80 {
         for end in ENDS {
             let value = [&plain(length), end.as_bytes()].concat();
-            for name in ["state", "redirect_uri", "nonce"] {
-                let front = format!("response_type=code&client_id=barnapp&{name}=");
+            for name in ["state", "redirect_uri", "nonce", "code_challenge"] {
+                let front = format!("{BARNAPP}&{name}=");
                 stands_alone(&[front.as_bytes(), &value].concat(), authorize);
             }
         }
     }
     let redirect = "response_type=code&client_id=barnapp&redirect_uri=https://barn.example/r?x=1";
     (50..=redirect.len()).for_each(|length| stands_alone(&redirect.as_bytes()[..length], authorize));
+    (50..=BARNAPP.len()).for_each(|length| stands_alone(&BARNAPP.as_bytes()[..length], authorize));
 }
 
 #[test]

@@ -3,7 +3,7 @@
 use poplarchime_host::sample::{self, Client, Slot};
 
 use super::plain;
-use crate::support::host::{bad_request, refresh_body, unauthorized, Authorized, Host, Reply};
+use crate::support::host::{bad_request, refresh_body, unauthorized, Authorized, Host, Reply, BARNAPP};
 
 const TOKEN: [u8; 20] = [0xef; 20];
 
@@ -32,7 +32,7 @@ fn host() -> Host {
 
 /// What the authorization endpoint says of a query that would be granted, with this piece behind it.
 fn ask(piece: &[u8]) -> Authorized {
-    host().authorize([b"response_type=code&client_id=barnapp&", piece].concat(), 1, 1000, 0x00)
+    host().authorize([BARNAPP.as_bytes(), b"&", piece].concat(), 1, 1000, 0x00)
 }
 
 /// The same of the token endpoint and a body.
@@ -116,8 +116,8 @@ fn long_value(front: &str) -> Vec<u8> {
 
 #[test]
 fn at_every_place_of_the_longest_query() {
-    let front = "response_type=code&client_id=barnapp&nonce=";
-    let text = long_value(front);
+    let front = format!("{BARNAPP}&nonce=");
+    let text = long_value(&front);
     let host = host();
     for at in 0..text.len() {
         // At the limit the digits are cut off.

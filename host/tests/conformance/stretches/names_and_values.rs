@@ -1,11 +1,13 @@
 //! Every known name, and its value, in requests of every kind: with an escape at any place it is the same, with a byte
 //! wrong at any place it is not.
 
+use poplarchime_host::plain::form::decode;
 use poplarchime_host::sample::{self, Client, Slot};
 
 use super::{escaped_where, near_misses, plain, ways};
 use crate::support::call::{Call, Request};
 use crate::support::compare::{run_both, After};
+use crate::support::pkce;
 
 /// A known name, its value, and what comes out without them and with another value.
 struct Param {
@@ -29,7 +31,8 @@ const REFRESH: [u8; 20] = [0xef; 20];
 
 fn store() -> Vec<u8> {
     let mut store = sample::empty_store();
-    sample::set_slot(&mut store, 0, Slot { scope: 255, ..Slot::of(sample::BOUND_CODE, CODE, 2000) });
+    let code = Slot { scope: 255, ..Slot::of(sample::BOUND_CODE, CODE, 2000) };
+    sample::set_slot(&mut store, 0, code.challenged(pkce::appendix_b().challenge));
     sample::set_slot(&mut store, 1, Slot { scope: 255, ..Slot::of(sample::REFRESH, REFRESH, 2000) });
     store
 }
@@ -42,6 +45,8 @@ fn authorization() -> Vec<Param> {
         param("redirect_uri", redirect, "code", "refusal 7"),
         param("scope", "power bill milking drying pump", "code", "invalid_scope"),
         param("state", plain(64), "code", "code"),
+        param("code_challenge", pkce::CHALLENGE, "invalid_request", "invalid_request"),
+        param("code_challenge_method", "S256", "invalid_request", "invalid_request"),
     ]
 }
 
@@ -56,6 +61,7 @@ fn exchange() -> Vec<Param> {
         param("grant_type", "authorization_code", "400 invalid_request", "400 unsupported_grant_type"),
         param("code", sample::hex(&CODE), "400 invalid_request", "400 invalid_grant"),
         param("redirect_uri", client().redirect, "400 invalid_grant", "400 invalid_grant"),
+        param("code_verifier", pkce::VERIFIER, "400 invalid_grant", "400 invalid_grant"),
     ];
     params.extend(credentials());
     params
@@ -180,9 +186,12 @@ fn a_value_with_one_byte_wrong_is_another() {
     with_every_param(|kind, param| {
         for written in near_misses(&param.value) {
             let after = kind.with(param, piece(param.name.as_bytes(), &written));
-            // A zero byte at its end is what makes a state unsound.
-            let unsound = param.name == "state" && written.ends_with(b"%00");
-            let expected = if unsound { "invalid_request" } else { param.wrong };
+            let expected = match param.name {
+                // A zero byte at its end is what makes a state unsound.
+                "state" if written.ends_with(b"%00") => "invalid_request",
+                "code_challenge" if pkce::is_challenge(&decode(&written).expect("well-formed")) => "code",
+                _ => param.wrong,
+            };
             assert_eq!(after.outcome(), expected, "{}", written.escape_ascii());
             assert!(after != kind.granted, "{}", written.escape_ascii());
         }

@@ -3,7 +3,7 @@
 use poplarchime_host::sample::{self, Client, Slot};
 
 use super::{near_misses, plain, ways};
-use crate::support::host::{bad_request, counting, exchange_body, redirected, Authorized, Host};
+use crate::support::host::{bad_request, counting, exchange_body, redirected, Authorized, Host, BARNAPP};
 use crate::support::writing;
 
 const CODE: [u8; 20] = [0xcd; 20];
@@ -24,15 +24,15 @@ fn host(redirect: &[u8]) -> Host {
 #[track_caller]
 fn expect(redirect: &[u8], written: &[u8], equal: bool) {
     let mut host = host(redirect);
-    let given = [b"&client_id=barnapp&redirect_uri=", written].concat();
-    let answer = host.authorize([b"response_type=code", &given[..]].concat(), 1, 1000, 0x00);
-    let reply = host.token("", [exchange_body(&CODE).as_bytes(), &given].concat(), 1000, 0x20);
+    let answer = host.authorize([BARNAPP.as_bytes(), b"&redirect_uri=", written].concat(), 1, 1000, 0x00);
+    let body = exchange_body(&CODE) + "&client_id=barnapp&redirect_uri=";
+    let reply = host.token("", [body.as_bytes(), written].concat(), 1000, 0x20);
     if equal {
         let address = String::from_utf8_lossy(redirect);
         let joint = if address.contains('?') { '&' } else { '?' };
         let location = format!("{address}{joint}code={}", sample::hex(&counting(0)));
         assert_eq!(answer, redirected(&location), "{}", written.escape_ascii());
-        assert_eq!(host.slot(1).kind, sample::BOUND_CODE, "{}", written.escape_ascii());
+        assert_eq!(host.slot(1).kind, sample::BOUND_CHALLENGED_CODE, "{}", written.escape_ascii());
         assert_eq!(reply.status, 200, "{}", written.escape_ascii());
     } else {
         assert_eq!(answer, Authorized::Refused(7), "{}", written.escape_ascii());

@@ -3,10 +3,9 @@
 use poplarchime_host::sample;
 
 use super::{marked, plain, Value, DOUBLED, MARKS};
-use crate::support::host::{counting, redirected, Authorized, Host};
+use crate::support::host::{counting, redirected, Authorized, Host, BARNAPP};
 use crate::support::writing;
 
-const BARNAPP: &str = "response_type=code&client_id=barnapp";
 const LONGEST: usize = 200;
 const UNSOUND: &str = "https://barn.example/r?x=1&error=invalid_request";
 
@@ -91,7 +90,7 @@ fn one_byte_more_than_may_be() {
 
 #[test]
 fn far_longer_states() {
-    for length in (LONGEST + 1..=700).chain([1023, 1024, 1025, 2048, 4000]) {
+    for length in (LONGEST + 1..=700).chain([1023, 1024, 1025, 2048, 3900]) {
         for value in [Value::plain(&plain(length)), Value::marked(length, length / 3, MARKS[0])] {
             assert_eq!(deny(&value.written), redirected(UNSOUND), "{length} bytes");
         }

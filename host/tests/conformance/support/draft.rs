@@ -5,6 +5,7 @@ use std::sync::Arc;
 use poplarchime_host::sample::{self, Client, Slot};
 
 use super::call::{Call, Request};
+use super::pkce;
 use super::rng::Rng;
 use super::writing;
 
@@ -204,7 +205,7 @@ impl Draft {
         }
     }
 
-    /// A request that asks for nothing special and is granted.
+    /// A request that asks for nothing special and is granted. A public client sends a challenge.
     pub fn authorize(
         clients: &Arc<[Client]>,
         store: &[u8],
@@ -217,6 +218,9 @@ impl Draft {
         draft.random = random.as_ref().to_vec();
         draft.params.push("response_type", "code");
         draft.params.push("client_id", &clients[client].id);
+        if clients[client].secret.is_none() {
+            draft.send_challenge(&pkce::appendix_b().challenge);
+        }
         draft
     }
 
@@ -237,8 +241,11 @@ impl Draft {
             Action::Exchange => {
                 draft.params.push("grant_type", "authorization_code");
                 draft.params.push("code", held.handle_text());
-                if held.kind == sample::BOUND_CODE {
+                if held.is_bound() {
                     draft.params.push("redirect_uri", &clients[usize::from(held.client)].redirect);
+                }
+                if let Some(verifier) = pkce::verifier_of(&held.challenge()).filter(|_| held.has_challenge()) {
+                    draft.params.push("code_verifier", verifier);
                 }
             }
             _ => {
@@ -271,6 +278,11 @@ impl Draft {
         draft.presented = slot;
         draft.token = sample::slot(store, slot).handle_text().into();
         draft
+    }
+
+    pub fn send_challenge(&mut self, challenge: &[u8; 32]) {
+        self.params.set("code_challenge", pkce::challenge_text(challenge));
+        self.params.set("code_challenge_method", "S256");
     }
 
     /// The slot that is presented, as the draft's store has it.
@@ -356,8 +368,22 @@ impl Draft {
             pieces.push([name, writing::any(value, writing::IN_VALUE, rng)].join(&b'='));
         }
         for _ in 0..rng.pick(&[0, 0, 1, 3]) {
-            let meaningless =
-                ["", "state=", "scope", "client_id=", "code=", "=", "=x", "x", "nonce=1", "STATE=1", "state+=1"];
+            let meaningless = [
+                "",
+                "state=",
+                "scope",
+                "client_id=",
+                "code=",
+                "code_challenge=",
+                "code_challenge_method",
+                "code_verifier=",
+                "=",
+                "=x",
+                "x",
+                "nonce=1",
+                "STATE=1",
+                "state+=1",
+            ];
             pieces.push(rng.pick(&meaningless).into());
         }
         rng.shuffle(&mut pieces);

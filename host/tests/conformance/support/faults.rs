@@ -3,6 +3,7 @@
 mod authentication;
 mod authorization;
 mod buffers;
+mod challenge;
 mod check;
 mod form;
 mod grant;
@@ -10,6 +11,7 @@ mod presented;
 mod room;
 mod scope;
 mod texts;
+mod verifier;
 
 use super::draft::{Action, Draft};
 use super::rng::Rng;
@@ -44,6 +46,7 @@ pub enum Step {
     Grant,
     SecondShowing,
     CodeRedirect,
+    Verifier,
     TokenScope,
     TokenRoom,
     TokenClash,
@@ -75,7 +78,7 @@ impl Step {
             Step::Authentication => "401 invalid_client",
             Step::GrantType => "400 unsupported_grant_type",
             Step::GrantNotForClient => "400 unauthorized_client",
-            Step::Grant | Step::CodeRedirect => "400 invalid_grant",
+            Step::Grant | Step::CodeRedirect | Step::Verifier => "400 invalid_grant",
             Step::SecondShowing => "400 invalid_grant, tokens cleared",
             Step::TokenScope => "400 invalid_scope",
             Step::TokenRoom => "503",
@@ -141,6 +144,7 @@ const AUTHORIZE: &[Reasons] = &[
     (Step::Client, authorization::CLIENT),
     (Step::Redirect, authorization::REDIRECT),
     (Step::Request, authorization::REQUEST),
+    (Step::Request, challenge::CHALLENGE),
     (Step::ResponseType, authorization::RESPONSE_TYPE),
     (Step::Scope, scope::SCOPE),
     (Step::Decision, authorization::DECISION),
@@ -148,6 +152,7 @@ const AUTHORIZE: &[Reasons] = &[
     (Step::Clash, room::CLASH),
     (Step::Harmless, scope::HARMLESS_SCOPE),
     (Step::Harmless, authorization::HARMLESS_AUTHORIZATION),
+    (Step::Harmless, challenge::HARMLESS_CHALLENGE),
 ];
 
 /// Of every grant of the token endpoint.
@@ -159,6 +164,7 @@ const GRANT: &[Reasons] = &[
     (Step::TokenRoom, room::ROOM),
     (Step::TokenClash, room::CLASH),
     (Step::Harmless, authentication::HARMLESS_TOKEN),
+    (Step::Harmless, verifier::HARMLESS_CHALLENGE),
 ];
 
 /// Of the grants for which a code or a refresh token is presented.
@@ -177,17 +183,25 @@ const EXCHANGE: &[Reasons] = &[
     (Step::Grant, grant::SPENT),
     (Step::SecondShowing, grant::SECOND_SHOWING),
     (Step::CodeRedirect, grant::CODE_REDIRECT),
+    (Step::Verifier, verifier::VERIFIER),
     (Step::TokenRoom, room::ONE_LEFT),
     (Step::TokenClash, room::SECOND_CLASH),
     (Step::TokenClash, room::SECOND_PRESENTED_CLASH),
     (Step::Harmless, grant::HARMLESS_EXCHANGE),
+    (Step::Harmless, verifier::HARMLESS_VERIFIER),
 ];
 
-const REFRESH: &[Reasons] =
-    &[(Step::Harmless, room::SECOND_PRESENTED_CLASH), (Step::Harmless, grant::HARMLESS_REFRESH)];
+const REFRESH: &[Reasons] = &[
+    (Step::Harmless, room::SECOND_PRESENTED_CLASH),
+    (Step::Harmless, grant::HARMLESS_REFRESH),
+    (Step::Harmless, verifier::IGNORED_VERIFIER),
+];
 
-const CLIENT_CREDENTIALS: &[Reasons] =
-    &[(Step::GrantNotForClient, grant::PUBLIC_CLIENT), (Step::Harmless, grant::HARMLESS_CLIENT_CREDENTIALS)];
+const CLIENT_CREDENTIALS: &[Reasons] = &[
+    (Step::GrantNotForClient, grant::PUBLIC_CLIENT),
+    (Step::Harmless, grant::HARMLESS_CLIENT_CREDENTIALS),
+    (Step::Harmless, verifier::IGNORED_VERIFIER),
+];
 
 const CHECK: &[Reasons] = &[
     (Step::Token, check::TOKEN),

@@ -15,6 +15,12 @@ pub struct Host {
 /// The header of the visit's client 0.
 pub const BASIC: &str = "Basic czZCaGRSa3F0MzpnWDFmQmF0M2JW";
 
+/// A query of the visit's client 1, with the challenge of RFC 7636 Appendix B.
+pub const BARNAPP: &str = "response_type=code&client_id=barnapp\
+    &code_challenge=E9Melhoa2OwvFrEMTJguCHaoeK1t8URWbuGJSstw-cM&code_challenge_method=S256";
+/// Client 1 in the body of an exchange, and the verifier of that challenge.
+pub const BY_BARNAPP: &str = "&client_id=barnapp&code_verifier=dBjftJeZ4CVP-mB92K27uhbUJU1p1r_wW1gFWFOEjXk";
+
 /// Twenty bytes that count up from the first.
 pub fn counting(first: u8) -> [u8; 20] {
     std::array::from_fn(|at| first + at as u8)

@@ -6,6 +6,7 @@ pub mod compare;
 pub mod draft;
 pub mod faults;
 pub mod host;
+pub mod pkce;
 pub mod rng;
 pub mod second_showing;
 pub mod tally;

@@ -16,7 +16,7 @@ pub fn second_showing(call: &Call, store: &[u8]) -> Option<[u8; 20]> {
     let Asked::Exchange { code, .. } = asked else { return None };
     let code = handle::parse(&code)?;
     let lowest = |kinds: &[u8]| sample::slots(store).find(|slot| kinds.contains(&slot.kind) && slot.handle == code);
-    let spent = lowest(&[sample::SPENT]).filter(|_| lowest(&[sample::CODE, sample::BOUND_CODE]).is_none())?;
+    let spent = lowest(&[sample::SPENT]).filter(|_| lowest(&sample::UNSPENT).is_none())?;
     let now = call.clock.max(sample::latest(store));
     (spent.is_live(now) && usize::from(spent.client) == client).then_some(code)
 }

@@ -10,6 +10,7 @@ use super::call::{credentials_in, Call, Request};
 use super::compare::After;
 use super::draft::{Action, Draft};
 use super::faults::{faults, give_scope, present, Fault, Step};
+use super::pkce;
 use super::rng::Rng;
 use super::tally::Tally;
 
@@ -19,6 +20,9 @@ const CLOCK_LIMIT: u64 = 1 << 40;
 const DAMAGED: &str = "damaged bytes";
 const DAMAGED_CREDENTIALS: &str = "damaged credentials";
 const UNCODED: &str = "credentials as they stand";
+const DAMAGED_CHALLENGE: &str = "damaged challenge";
+const DAMAGED_METHOD: &str = "damaged challenge method";
+const DAMAGED_VERIFIER: &str = "damaged verifier";
 
 /// What a store is like at the start of a sequence.
 #[derive(Clone, Copy, Debug, PartialEq, Eq)]
@@ -123,8 +127,13 @@ impl World {
             scope: rng.between(1, 255) as u8,
             expiry,
             origin: self.handle(rng),
+            behind_origin: [0; 12],
         };
-        slot.turned(rng.pick(&sample::KINDS))
+        let slot = slot.turned(rng.pick(&sample::KINDS));
+        match slot.has_challenge() && rng.chance(85) {
+            true => slot.challenged(pkce::any_pair(rng).challenge),
+            false => slot,
+        }
     }
 
     fn handle(&self, rng: &mut Rng) -> [u8; 20] {
@@ -169,13 +178,15 @@ impl World {
         ]);
         let mut draft = self.sound_draft(action, rng);
         let sound = self.spoil(&mut draft, rng, reasons);
+        let mut damage_done = if rng.chance(4) { damage_proof(&mut draft, rng) } else { None };
         let mut call = draft.call_in_any_writing(rng);
-        let damaged = rng.chance(8);
-        if damaged {
-            let what = damage(&mut call.request, rng);
+        if rng.chance(8) {
+            damage_done = Some(damage(&mut call.request, rng));
+        }
+        if let Some(what) = damage_done {
             reasons.add(format!("{}: {what}", action.name()));
         }
-        Drawn { action, call, store: draft.store, sound: sound && !damaged }
+        Drawn { action, call, store: draft.store, sound: sound && damage_done.is_none() }
     }
 
     /// A call that changed slots, once more: at another time and mostly with other random bytes.
@@ -213,6 +224,8 @@ impl World {
         for action in Action::ISSUING {
             reasons.push(format!("{}: made again", action.name()));
         }
+        reasons.extend([DAMAGED_CHALLENGE, DAMAGED_METHOD].map(|what| format!("{}: {what}", Action::Authorize.name())));
+        reasons.push(format!("{}: {DAMAGED_VERIFIER}", Action::Exchange.name()));
         reasons.sort();
         reasons.dedup();
         reasons
@@ -258,6 +271,9 @@ impl World {
         if rng.chance(40) {
             give_scope(&mut draft, rng);
         }
+        if draft.asking().secret.is_none() || rng.chance(40) {
+            draft.send_challenge(&pkce::any_pair(rng).challenge);
+        }
         if rng.chance(60) {
             draft.params.push("state", rng.pick(&["xyz", "a b&c=d%", "~", "100%25"]));
         }
@@ -295,7 +311,7 @@ impl World {
             Action::Authorize | Action::ClientCredentials => return 0,
             _ if rng.chance(2) => &sample::KINDS,
             Action::Exchange if rng.chance(25) => &[sample::SPENT],
-            Action::Exchange => &[sample::CODE, sample::BOUND_CODE],
+            Action::Exchange => &sample::UNSPENT,
             Action::Refresh => &[sample::REFRESH],
             Action::Check => &[sample::ACCESS],
         };
@@ -338,7 +354,7 @@ impl World {
     fn random_for_issue(&self, rng: &mut Rng) -> [u8; 20] {
         let slot = sample::slot(&self.store, rng.below(sample::SLOTS));
         match slot.kind != sample::FREE && rng.chance(3) {
-            true if slot.is_token() && rng.chance(50) => slot.origin,
+            true if (slot.is_token() || slot.has_challenge()) && rng.chance(50) => slot.origin,
             true => slot.handle,
             false if rng.chance(50) => rng.handle(),
             false => self.handle(rng),
@@ -376,6 +392,20 @@ fn choose_step(faults: &[Fault], rng: &mut Rng) -> Step {
         steps.dedup();
     }
     rng.pick(&steps)
+}
+
+/// Damages the challenge, its method or the verifier before it is written, if the request has one. Says which.
+fn damage_proof(draft: &mut Draft, rng: &mut Rng) -> Option<&'static str> {
+    let (name, what) = match draft.action {
+        Action::Authorize if rng.chance(70) => ("code_challenge", DAMAGED_CHALLENGE),
+        Action::Authorize => ("code_challenge_method", DAMAGED_METHOD),
+        Action::Exchange => ("code_verifier", DAMAGED_VERIFIER),
+        _ => return None,
+    };
+    let mut value = draft.params.get(name)?.to_vec();
+    damage_bytes(&mut value, rng);
+    draft.params.set(name, value);
+    Some(what)
 }
 
 /// Damages what the outside sent: the credentials in a header before base64, or any bytes. Says which.

@@ -1,10 +1,11 @@
--- A slot of another kind is no token; of a token it is the origin that decides, which lies where the layout says.
+-- A slot of another kind is no token; of a token it is the origin that decides, which stands first in its link.
 use borrow.Author.Needs.{needs}
 use Prim.Native.Nat.{ℕ, _+_, _-_}
 use mathlib.Core.Path.{_≡_, sym, ap, _∙_}
 use native.Mathlib.Omega.{arith}
 use borrow.Author.Tests.{not-true, not-false}
-use Rattle.token_store.specs.Layout.{handleSize, atOrigin}
+use lib.Seq.{take-take}
+use Rattle.token_store.specs.Layout.{handleSize, linkSize, atLink}
 use Rattle.token_store.specs.Store.{decode, slotOf, isToken, isTokenKind}
 use Rattle.token_store.specs.declared.Slot.{Slot}
 use Rattle.token_store.proofs.Codec.{slot-read}
@@ -25,11 +26,11 @@ returns-2 c =
     let started = c .before .before in
     let tested = started .before in
     let s = start (tested .before) in
-    let at : ℕ = started .slot-start .result + atOrigin in
+    let at : ℕ = started .slot-start .result + atLink in
     let n : at + handleSize - at ≡ handleSize = omega arith in
     let token = sym (told (tested .before)) ∙ not-false _ (tested .if1 .left) in
-    let origin = ap (λ (x : Slot). x .origin) (slot-read (s .args .store .now) (s .args .i) (s .pre .0) (s .pre .1)) in
-    c .equal .ensures ∙ rw (n, started .slot-start .ensures, token, origin)
+    let link = ap (λ (x : Slot). x .link) (slot-read (s .args .store .now) (s .args .i) (s .pre .0) (s .pre .1)) in
+    c .equal .ensures ∙ rw (n, started .slot-start .ensures, token, link, take-take handleSize linkSize _ (omega arith))
 
 pub comes-from-spec : {M : Type 1} → statement M
 comes-from-spec =

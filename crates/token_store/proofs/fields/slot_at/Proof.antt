@@ -8,11 +8,11 @@ use Rattle.token_store.proofs.fields.slot_at.Tie as tie
 returns : tie.Need-returns
 returns c =
     let farm = c .before .before in
-    let origin = farm .before .before .before in
-    let handle = origin .before in
+    let link = farm .before .before .before in
+    let handle = link .before in
     let start = handle .before in
     let s = start .before .before in
-    rw (c .read-be64 .ensures, farm .read-be32 .ensures, origin .handle-at2 .ensures, handle .handle-at .ensures, start .slot-start .ensures)
+    rw (c .read-be64 .ensures, farm .read-be32 .ensures, link .link-at .ensures, handle .handle-at .ensures, start .slot-start .ensures)
     (sym (slot-read (s .args .store .now) (s .args .i) (s .pre .0) (s .pre .1)))
 
 pub slot-at-spec : {M : Type 1} → statement M

@@ -4,7 +4,7 @@ use Rattle.token_store.proofs.search.is_sought.Statement.{statement}
 use Rattle.token_store.proofs.search.is_sought.Tie as tie
 
 returns : tie.Need-returns
-returns c = rw (c .enum-told .given .1, c .before .before .kind-of .ensures)
+returns c = rw (c .before .enum-told .given .1, c .is-challenged-kind .ensures, c .before .before .before .kind-of .ensures)
 
 returns-2 : tie.Need-returns-2
 returns-2 c = rw (c .enum-told2 .given .1, c .before .before .kind-of .ensures)
@@ -18,5 +18,5 @@ returns-4 c = rw (c .enum-told4 .given .1, c .before .before .kind-of .ensures)
 pub is-sought-spec : {M : Type 1} → statement M
 is-sought-spec =
     tie.close
-    (tie.spec (λ c κs. search needs) (λ c. search needs) (λ c. search needs) (λ c. search needs) (λ c. search needs) returns returns-2
-    returns-3 returns-4)
+    (tie.spec (λ c κs. search needs) (λ c. search needs) (λ c κs. search needs) (λ c. search needs) (λ c. search needs) (λ c. search needs)
+    returns returns-2 returns-3 returns-4)

@@ -20,7 +20,7 @@ fits c = record {
   farm = search needs;
   scope = search needs;
   expiry = search needs;
-  origin = search needs;
+  link = search needs;
 }
 
 copy-at-requires : tie.Need-copy-at-requires
@@ -37,7 +37,7 @@ copy-at-requires-2 c κs =
     let third = c .before .before .before .before in
     let first = third .before .before .before .before .before .before .before in
     let start = first .before .before .before .before in
-    omega (arith, third .write-be2 .kept .0, fits start .origin)
+    omega (arith, third .write-be2 .kept .0, fits start .link)
 
 returns : tie.Need-returns
 returns c =

@@ -5,6 +5,7 @@ use poplarchime_host::sample;
 use super::texts::{cut, inside, longer, other_end, repeat};
 use super::Apply;
 use crate::support::draft::{Draft, Header};
+use crate::support::pkce;
 use crate::support::rng::Rng;
 use crate::support::writing;
 
@@ -19,6 +20,11 @@ pub const BODY: &[(&str, Apply)] = &[
     ("two scopes", |d, _| {
         d.params.set("scope", "power");
         d.params.push("scope", "peak");
+    }),
+    ("code_verifier twice", |d, _| repeat(d, "code_verifier")),
+    ("two code_verifiers", |d, _| {
+        d.params.set("code_verifier", pkce::VERIFIER);
+        d.params.push("code_verifier", pkce::CHALLENGE);
     }),
     ("no grant_type", |d, _| d.params.remove("grant_type")),
     ("empty grant_type", |d, _| d.params.set("grant_type", "")),

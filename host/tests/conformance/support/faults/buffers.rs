@@ -150,9 +150,10 @@ pub const STORE: &[(&str, Apply)] = &[
     ("no store", |d, _| d.store.clear()),
     ("a slot too few", |d, _| d.store.truncate(sample::STORE_SIZE - sample::SLOT_SIZE)),
     ("store of slots without an origin", |d, _| d.store.truncate(8 + sample::SLOTS * sample::ORIGIN)),
+    ("store of slots without a challenge", |d, _| d.store.truncate(8 + sample::SLOTS * sample::BEHIND_ORIGIN)),
     ("high-water mark above 2^40", |d, _| sample::set_latest(&mut d.store, CLOCK_LIMIT + 1)),
     ("high-water mark of 2^64-1", |d, _| sample::set_latest(&mut d.store, u64::MAX)),
-    ("slot of kind 6", |d, rng| spoil_slot(d, rng, |slot, _| *slot = slot.turned(6))),
+    ("slot of kind 8", |d, rng| spoil_slot(d, rng, |slot, _| *slot = slot.turned(8))),
     ("slot of kind 255", |d, rng| spoil_slot(d, rng, |slot, _| slot.kind = 255)),
     ("slot of a client beyond the registry", |d, rng| spoil_slot(d, rng, |slot, clients| slot.client = clients)),
     ("slot of client 255", |d, rng| spoil_slot(d, rng, |slot, _| slot.client = 255)),
@@ -160,12 +161,18 @@ pub const STORE: &[(&str, Apply)] = &[
     ("code with an origin", |d, rng| give_origin(d, rng, sample::CODE)),
     ("bound code with an origin", |d, rng| give_origin(d, rng, sample::BOUND_CODE)),
     ("spent code with an origin", |d, rng| give_origin(d, rng, sample::SPENT)),
+    ("code with a byte behind its origin", |d, rng| give_more(d, rng, sample::CODE)),
+    ("bound code with a byte behind its origin", |d, rng| give_more(d, rng, sample::BOUND_CODE)),
+    ("spent code with a byte behind its origin", |d, rng| give_more(d, rng, sample::SPENT)),
+    ("access token with a byte behind its origin", |d, rng| give_more(d, rng, sample::ACCESS)),
+    ("refresh token with a byte behind its origin", |d, rng| give_more(d, rng, sample::REFRESH)),
     ("free slot with a handle", |d, rng| free_but(d, rng, |slot| slot.handle[19] = 1)),
     ("free slot with a client", |d, rng| free_but(d, rng, |slot| slot.client = 1)),
     ("free slot with a farm", |d, rng| free_but(d, rng, |slot| slot.farm = 1)),
     ("free slot with a scope set", |d, rng| free_but(d, rng, |slot| slot.scope = 1)),
     ("free slot with an expiry", |d, rng| free_but(d, rng, |slot| slot.expiry = 1)),
     ("free slot with an origin", |d, rng| free_but(d, rng, |slot| slot.origin[0] = 1)),
+    ("free slot with a byte behind its origin", |d, rng| free_but(d, rng, |slot| slot.behind_origin[11] = 1)),
 ];
 
 fn spoil_slot(draft: &mut Draft, rng: &mut Rng, spoil: fn(&mut Slot, u8)) {
@@ -185,6 +192,15 @@ fn give_origin(draft: &mut Draft, rng: &mut Rng, kind: u8) {
     draft.edit_slot(number, |slot| {
         *slot = Slot::of(kind, slot.handle, slot.expiry);
         slot.origin[at] = 1;
+    });
+}
+
+/// Turns a slot into one of a kind that has zeros behind its origin, and sets one of them.
+fn give_more(draft: &mut Draft, rng: &mut Rng, kind: u8) {
+    let (number, at) = (rng.below(sample::SLOTS), rng.below(12));
+    draft.edit_slot(number, |slot| {
+        *slot = Slot::of(kind, slot.handle, slot.expiry);
+        slot.behind_origin[at] = 1;
     });
 }
 

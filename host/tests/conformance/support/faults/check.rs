@@ -25,6 +25,7 @@ pub const TOKEN: &[(&str, Apply)] = &[
     ("a code", |d, _| d.edit_slot(d.presented, |slot| *slot = slot.turned(sample::CODE))),
     ("a bound code", |d, _| d.edit_slot(d.presented, |slot| *slot = slot.turned(sample::BOUND_CODE))),
     ("a spent code", |d, _| d.edit_slot(d.presented, |slot| *slot = slot.turned(sample::SPENT))),
+    ("a code with a challenge", |d, _| d.edit_slot(d.presented, |slot| *slot = slot.turned(sample::CHALLENGED_CODE))),
     ("a refresh token", |d, _| d.edit_slot(d.presented, |slot| slot.kind = sample::REFRESH)),
     ("a slot that has run out hides it", |d, rng| hide(d, rng, expire)),
 ];
@@ -34,7 +35,7 @@ pub const HARMLESS_CHECK: &[(&str, Apply)] = &[
     ("scope set beyond the client's", |d, _| d.edit_slot(d.presented, |slot| slot.scope = 255)),
     ("codes and refresh token of the same handle", |d, rng| {
         let held = d.presented_slot();
-        for kind in [sample::CODE, sample::BOUND_CODE, sample::SPENT, sample::REFRESH] {
+        for kind in sample::KINDS.into_iter().filter(|&kind| kind != sample::ACCESS) {
             d.set_slot(d.other_slot(rng), held.turned(kind));
         }
     }),

@@ -22,9 +22,13 @@ pub const HARMLESS_FORM: &[(&str, Apply)] = &[
     ("unknown names, repeated", |d, _| d.raw_piece = b"nonce=1&nonce=1&nonce=2".into()),
     ("empty pieces", |d, _| d.raw_piece = b"&&&".into()),
     ("known names without a value", |d, _| {
-        d.raw_piece = b"state=&state&scope=&scope&client_id=&client_secret&code=&redirect_uri&grant_type=".into()
+        d.raw_piece = b"state=&state&scope=&scope&client_id=&client_secret&code=&redirect_uri&grant_type=\
+            &code_challenge=&code_challenge&code_challenge_method=&code_verifier=&code_verifier"
+            .into()
     }),
-    ("known names in capitals", |d, _| d.raw_piece = b"STATE=1&Client_id=1&CODE=1&SCOPE=1&SCOPE=1".into()),
+    ("known names in capitals", |d, _| {
+        d.raw_piece = b"STATE=1&Client_id=1&CODE=1&SCOPE=1&SCOPE=1&Code_verifier=1".into()
+    }),
     ("known names with a space", |d, _| d.raw_piece = b"state+=1&+client_id=1&code%20=1".into()),
     ("empty names", |d, _| d.raw_piece = b"=1&=&=state".into()),
     ("bytes outside ASCII", |d, _| d.raw_piece = b"\xff\x00\x80=\xc3\xa9%FF%00;state=1".into()),

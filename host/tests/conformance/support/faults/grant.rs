@@ -5,8 +5,10 @@ use poplarchime_host::sample::{self, Slot};
 use super::presented::{expire, give_away, hide, present, presented_name, run_out, show_first, spoiled};
 use super::room::time;
 use super::texts::{cut, longer, one_less, other_end};
+use super::verifier::challenge;
 use super::Apply;
 use crate::support::draft::{Action, Draft};
+use crate::support::pkce;
 use crate::support::rng::Rng;
 
 pub const GRANT_TYPE: &[(&str, Apply)] = &[
@@ -81,7 +83,7 @@ pub const GRANT: &[(&str, Apply)] = &[
             d.authenticate((owner + rng.between(1, clients - 1)) % clients);
         }
     }),
-    ("an access token", |d, _| d.edit_slot(d.presented, |slot| slot.kind = sample::ACCESS)),
+    ("an access token", |d, _| d.edit_slot(d.presented, |slot| *slot = slot.turned(sample::ACCESS))),
     ("the other kind of handle", |d, rng| {
         let kind = if d.action == Action::Exchange { sample::REFRESH } else { rng.pick(&sample::CODES) };
         d.edit_slot(d.presented, |slot| *slot = slot.turned(kind));
@@ -124,6 +126,15 @@ pub const SPENT: &[(&str, Apply)] = &[
         show_first(d, rng, |slot, _, _| slot.kind = sample::BOUND_CODE);
         d.params.remove("redirect_uri");
     }),
+    ("spent code and one with a challenge, no verifier", |d, rng| {
+        spend(d, rng);
+        show_first(d, rng, |slot, _, _| *slot = slot.challenged([1; 32]));
+        d.params.remove("code_verifier");
+    }),
+    ("spent code and one with a challenge that has run out", |d, rng| {
+        spend(d, rng);
+        show_first(d, rng, |slot, now, _| *slot = Slot { expiry: now, ..slot.challenged([1; 32]) });
+    }),
 ];
 
 pub const SECOND_SHOWING: &[(&str, Apply)] = &[
@@ -145,6 +156,19 @@ pub const SECOND_SHOWING: &[(&str, Apply)] = &[
         hide(d, rng, |slot, _, _| slot.kind = sample::ACCESS);
         hide(d, rng, |slot, _, _| slot.kind = sample::REFRESH);
     }),
+    ("spent code that had a challenge, no verifier", |d, rng| {
+        challenge(d, rng);
+        spend(d, rng);
+        d.params.remove("code_verifier");
+    }),
+    ("spent code, nonsense as verifier", |d, rng| {
+        spend(d, rng);
+        d.params.set("code_verifier", "nonsense");
+    }),
+    ("spent code, another's verifier", |d, rng| {
+        spend(d, rng);
+        d.params.set("code_verifier", &pkce::sound_pair(rng).verifier);
+    }),
     ("spent code of the handle of zeros", |d, rng| {
         d.edit_slot(d.presented, |slot| slot.handle = [0; 20]);
         present(d, sample::hex(&[0; 20]));
@@ -153,9 +177,12 @@ pub const SECOND_SHOWING: &[(&str, Apply)] = &[
 ];
 
 /// Turns the presented code into a spent one from which tokens came: live and run out, the client's own and others'.
+/// Another code has a challenge that begins as an origin would.
 fn spend(draft: &mut Draft, rng: &mut Rng) {
-    draft.edit_slot(draft.presented, |slot| slot.kind = sample::SPENT);
+    draft.edit_slot(draft.presented, |slot| *slot = slot.turned(sample::SPENT));
     let (origin, now) = (draft.presented_slot().handle, time(draft));
+    let code = Slot { origin, ..Slot::of(sample::CHALLENGED_CODE, rng.handle(), now + 1) };
+    draft.set_slot(draft.other_slot(rng), code);
     for (kind, expiry) in [(sample::ACCESS, now), (sample::ACCESS, now + 1), (sample::REFRESH, u64::MAX)] {
         let client = rng.below(draft.clients.len()) as u8;
         let token = Slot { client, origin, ..Slot::of(kind, rng.handle(), expiry) };
@@ -187,18 +214,18 @@ pub const CODE_REDIRECT: &[(&str, Apply)] = &[
 ];
 
 fn bind(draft: &mut Draft) {
-    draft.edit_slot(draft.presented, |slot| slot.kind = sample::BOUND_CODE);
+    draft.edit_slot(draft.presented, |slot| *slot = slot.bound(true));
 }
 
 pub const HARMLESS_EXCHANGE: &[(&str, Apply)] = &[
     ("nonsense as scope", |d, _| d.params.set("scope", "  everything ")),
     ("nonsense as refresh_token", |d, _| d.params.set("refresh_token", "nonsense")),
     ("unbound code, redirect_uri of a stranger", |d, _| {
-        d.edit_slot(d.presented, |slot| slot.kind = sample::CODE);
+        d.edit_slot(d.presented, |slot| *slot = slot.bound(false));
         d.params.set("redirect_uri", "https://evil.example/");
     }),
     ("unbound code, no redirect_uri", |d, _| {
-        d.edit_slot(d.presented, |slot| slot.kind = sample::CODE);
+        d.edit_slot(d.presented, |slot| *slot = slot.bound(false));
         d.params.remove("redirect_uri");
     }),
 ];

@@ -21,16 +21,22 @@ pub const CLASH: &[(&str, Apply)] = &[
 ];
 
 /// Only handles are looked at.
-pub const HARMLESS_CLASH: &[(&str, Apply)] = &[("random bytes of an origin", |d, rng| {
+pub const HARMLESS_CLASH: &[(&str, Apply)] = &[
+    ("random bytes of an origin", |d, rng| be_origin_where(d, rng, Slot::is_token)),
+    ("random bytes of a challenge", |d, rng| be_origin_where(d, rng, Slot::has_challenge)),
+];
+
+/// Puts random bytes where an origin stands, or the first bytes of a challenge, but for the presented slot.
+fn be_origin_where(draft: &mut Draft, rng: &mut Rng, test: fn(&Slot) -> bool) {
     for number in 0..sample::SLOTS {
-        let origin = handle_at(d, rng.pick(&[0, d.random.len() - 20]));
-        d.edit_slot(number, |slot| {
-            if slot.is_token() {
+        let (origin, presented) = (handle_at(draft, rng.pick(&[0, draft.random.len() - 20])), draft.presents(number));
+        draft.edit_slot(number, |slot| {
+            if test(slot) && !presented {
                 slot.origin = origin;
             }
         });
     }
-})];
+}
 
 pub const PRESENTED_CLASH: &[(&str, Apply)] = &[("random bytes of the presented slot", |d, _| {
     d.random.splice(..20, d.presented_slot().handle).for_each(drop);
