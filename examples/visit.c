@@ -1,7 +1,7 @@
 /*
  * A host in C that plays the papers' visit from end to end: two apps ask for a farm's readings. Then a phone app
  * without a secret shows that a code is its own, a thief and an app show the same code, a server asks for its own
- * readings, and an app has a secret that must be coded before it is sent.
+ * readings, an app has a secret that must be coded before it is sent, and at harvest a crowd fills the store.
  *
  * It shows each request and answer, and holds each answer to what the papers say. The last line is
  * 'N passed, M failed', and the exit status is 0 only if M is 0. `examples/run` builds and runs it.
@@ -14,6 +14,7 @@
 #include <stdio.h>
 #include <string.h>
 
+#include "host.h"
 #include "poplarchime.h"
 
 /* The sizes that the archive was built with, on x86-64. */
@@ -22,44 +23,6 @@ _Static_assert(sizeof(struct poplarchime_token_reply) == 24, "struct poplarchime
 _Static_assert(sizeof(struct poplarchime_check_answer) == 32, "struct poplarchime_check_answer");
 
 static int passed, failed;
-
-/* ---- What a host keeps ---- */
-
-struct host {
-    uint8_t registry[2 * POPLARCHIME_CONFIDENTIAL_RECORD_SIZE + POPLARCHIME_PUBLIC_RECORD_SIZE];
-    size_t registry_length;
-    uint8_t store[POPLARCHIME_STORE_SIZE];
-    uint8_t output[POPLARCHIME_LEAST_OUTPUT];
-};
-
-/* A field of a record: length, text, zeros up to the width. The registry is zero before. */
-static void add_text(struct host *host, const char *text, size_t width)
-{
-    uint8_t *field = host->registry + host->registry_length;
-    field[0] = (uint8_t)strlen(text);
-    memcpy(field + 1, text, strlen(text));
-    host->registry_length += 1 + width;
-}
-
-/* A client without secret is public. */
-static void add_client(struct host *host, const char *id, const char *redirect, uint8_t scope, const char *secret)
-{
-    host->registry[host->registry_length++] = secret ? 2 : 1;
-    add_text(host, id, POPLARCHIME_ID_LIMIT);
-    add_text(host, redirect, POPLARCHIME_REDIRECT_LIMIT);
-    host->registry[host->registry_length++] = scope;
-    if (secret)
-        add_text(host, secret, POPLARCHIME_SECRET_LIMIT);
-}
-
-/* The two sample clients, and a fresh store. */
-static void start(struct host *host)
-{
-    memset(host, 0, sizeof *host);
-    add_client(host, "s6BhdRkqt3", "https://client.example.com/cb",
-               POPLARCHIME_SCOPE_POWER + POPLARCHIME_SCOPE_PEAK + POPLARCHIME_SCOPE_BILL, "gX1fBat3bV");
-    add_client(host, "barnapp", "https://barn.example/r?x=1", POPLARCHIME_SCOPE_POWER, NULL);
-}
 
 static void count_up(uint8_t *bytes, size_t length, uint8_t first)
 {
@@ -92,10 +55,6 @@ static int same(const uint8_t *bytes, size_t length, const char *text)
 }
 
 /* ---- The three endpoints, as a host calls them ---- */
-
-/* The farm whose owner is asked, and what stands in its place in a token that a client has for itself. */
-#define FARM 7
-#define NO_FARM 0
 
 static struct poplarchime_authorization call_authorize(struct host *host, const char *query, uint64_t decision,
                                                        uint32_t farm, uint64_t clock, uint8_t random_from)
@@ -222,7 +181,6 @@ static void is_not_live(struct host *host, const char *token, uint64_t clock)
 
 #define QUERY \
     "response_type=code&client_id=s6BhdRkqt3&state=xyz&redirect_uri=https%3A%2F%2Fclient%2Eexample%2Ecom%2Fcb"
-#define BASIC "Basic czZCaGRSa3F0MzpnWDFmQmF0M2JW"
 #define CODE "000102030405060708090a0b0c0d0e0f10111213"
 #define ACCESS "202122232425262728292a2b2c2d2e2f30313233"
 #define REFRESH "3435363738393a3b3c3d3e3f4041424344454647"
@@ -284,9 +242,6 @@ static void time_that_never_goes_back(struct host *host)
     replies(host, BASIC, EXCHANGE_OF(NEXT_CODE), 2200, 0x20, 400, 0, INVALID_GRANT);
 }
 
-/* A verifier, and its SHA-256 in base64url (RFC 7636 Appendix B). A real app makes up another one each time. */
-#define VERIFIER "dBjftJeZ4CVP-mB92K27uhbUJU1p1r_wW1gFWFOEjXk"
-#define CHALLENGE "E9Melhoa2OwvFrEMTJguCHaoeK1t8URWbuGJSstw-cM"
 #define BARN_QUERY_WITHOUT_CHALLENGE "response_type=code&client_id=barnapp"
 #define BARN_QUERY BARN_QUERY_WITHOUT_CHALLENGE "&code_challenge=" CHALLENGE "&code_challenge_method=S256"
 #define BARN_EXCHANGE_WITHOUT_VERIFIER(code) "grant_type=authorization_code&code=" code "&client_id=barnapp"
@@ -422,6 +377,54 @@ static void secret_with_a_percent_sign(struct host *host)
             ONE_TOKEN(LATER_ACCESS, "drying"));
 }
 
+/* So many slots a store had before version 0.6.0, and at harvest they ran out. */
+#define FORMER_SLOTS 512
+
+/* So many owners allow the app, one after the other; each must get a code. */
+static void crowd_comes(struct host *host, uint32_t first, uint32_t owners, uint64_t clock)
+{
+    uint32_t codes = 0;
+    for (uint32_t number = first; number < first + owners; number++) {
+        uint8_t random[POPLARCHIME_AUTHORIZE_RANDOM];
+        memset(random, 0xcc, sizeof random);
+        memcpy(random, &number, sizeof number);
+        struct poplarchime_authorization answer =
+            poplarchime_authorize((const uint8_t *)QUERY, strlen(QUERY), POPLARCHIME_ALLOW, FARM, host->registry,
+                                  host->registry_length, host->store, sizeof host->store, clock, random,
+                                  sizeof random, host->output, sizeof host->output);
+        codes += answer.refusal == POPLARCHIME_NOT_REFUSED && answer.error == POPLARCHIME_NO_ERROR;
+    }
+    printf("   clock %" PRIu64 ", %" PRIu32 " owners allow the app\n   < %" PRIu32 " codes\n", clock, owners, codes);
+    judge(codes == owners, "a code for each");
+}
+
+static void harvest_crowd(struct host *host)
+{
+    start(host);
+    title("At harvest every farmer wants his readings at once: as many visits as the store once had slots ...");
+    crowd_comes(host, 0, FORMER_SLOTS, 1000);
+    title("... and one more, which would have been sent away: it gets its code");
+    redirects(host, QUERY, POPLARCHIME_ALLOW, 1300, 0x00, POPLARCHIME_NO_ERROR,
+              "https://client.example.com/cb?code=" CODE "&state=xyz");
+    title("The crowd goes on until every slot of today is taken ...");
+    crowd_comes(host, FORMER_SLOTS, POPLARCHIME_STORE_SLOTS - FORMER_SLOTS - 1, 1300);
+    title("... and then the next visit is sent back with a word that says: later");
+    redirects(host, QUERY, POPLARCHIME_ALLOW, 1400, 0x60, POPLARCHIME_TEMPORARILY_UNAVAILABLE,
+              "https://client.example.com/cb?error=temporarily_unavailable&state=xyz");
+    title("An exchange needs two slots for its tokens. It gets 503 and no body ...");
+    struct host before = *host;
+    replies(host, BASIC, EXCHANGE, 1400, 0x20, 503, 0, "");
+    printf("   and the store is as it was: nothing is spent\n");
+    judge(memcmp(host->store, before.store, sizeof host->store) == 0, "an untouched store");
+    title("... and a second before the first codes run out it is no different");
+    replies(host, BASIC, EXCHANGE, 1599, 0x20, 503, 0, "");
+    title("At 1600 they have run out, and there is room: the same exchange goes through, and so does a new visit");
+    replies(host, BASIC, EXCHANGE, 1600, 0x20, 200, 0, TOKENS_FOR("power peak bill"));
+    is_live(host, ACCESS, 1600, 0, 11, 3600);
+    redirects(host, QUERY, POPLARCHIME_ALLOW, 1600, 0x60, POPLARCHIME_NO_ERROR,
+              "https://client.example.com/cb?code=" NEXT_CODE "&state=xyz");
+}
+
 /* A state of 64 plain bytes, which is read at a go. */
 #define LONG_STATE "0123456789abcdefghijklmnopqrstuvwxyzABCDEFGHIJKLMNOPQRSTUVWXYZ-."
 /* https://client.example.com/cb with each byte escaped. */
@@ -474,6 +477,14 @@ static void refuses(const char *what, uint32_t refusal, uint32_t expected)
     judge(refusal == expected, right);
 }
 
+/* A check with a store of this length. */
+static void refuses_store(struct host *host, const char *what, size_t length)
+{
+    refuses(what,
+            poplarchime_check(NULL, 0, host->registry, host->registry_length, host->store, length, 1000).refusal,
+            POPLARCHIME_REFUSED_STORE);
+}
+
 static void bad_hosts(struct host *host)
 {
     start(host);
@@ -488,16 +499,10 @@ static void bad_hosts(struct host *host)
             POPLARCHIME_REFUSED_BUFFERS);
     refuses("no registry", poplarchime_check(NULL, 0, NULL, 0, host->store, sizeof host->store, 1000).refusal,
             POPLARCHIME_REFUSED_REGISTRY);
-    refuses("half a store",
-            poplarchime_check(NULL, 0, host->registry, host->registry_length, host->store, sizeof host->store / 2,
-                              1000).refusal,
-            POPLARCHIME_REFUSED_STORE);
-    refuses("a store from before version 0.4.0, of 17,928 bytes",
-            poplarchime_check(NULL, 0, host->registry, host->registry_length, host->store, 17928, 1000).refusal,
-            POPLARCHIME_REFUSED_STORE);
-    refuses("a store from before version 0.5.0, of 28,168 bytes",
-            poplarchime_check(NULL, 0, host->registry, host->registry_length, host->store, 28168, 1000).refusal,
-            POPLARCHIME_REFUSED_STORE);
+    refuses_store(host, "half a store", sizeof host->store / 2);
+    refuses_store(host, "a store from before version 0.4.0, of 17,928 bytes", 17928);
+    refuses_store(host, "a store from before version 0.5.0, of 28,168 bytes", 28168);
+    refuses_store(host, "a store from before version 0.6.0, of 34,312 bytes", 34312);
     refuses("a clock beyond 2^40",
             poplarchime_check(NULL, 0, host->registry, host->registry_length, host->store, sizeof host->store,
                               POPLARCHIME_CLOCK_LIMIT + 1).refusal,
@@ -517,6 +522,7 @@ int main(void)
     code_shown_twice(&host);
     client_for_itself(&host);
     secret_with_a_percent_sign(&host);
+    harvest_crowd(&host);
     values_in_any_writing(&host);
     bad_requests(&host);
     bad_hosts(&host);

@@ -30,7 +30,7 @@
  * The version of this interface and of the archive that goes with it. Where the second number moves, a host may have to
  * change: docs/changes/ says what moved.
  */
-#define POPLARCHIME_VERSION "0.5.0"
+#define POPLARCHIME_VERSION "0.6.0"
 
 #ifdef __cplusplus
 extern "C" {
@@ -39,11 +39,12 @@ extern "C" {
 /* ---- Sizes, in bytes unless they say otherwise ---- */
 
 /*
- * The token store: a time of 8, then the slots. A fresh store is all zero. A store from before version 0.5.0 has another
- * size and is refused: start from a fresh one.
+ * The token store: a time of 8, then the slots. A fresh store is all zero. A store from before version 0.6.0 has another
+ * size and is refused. One of version 0.5.0, of 34,312 bytes, can be taken over (docs/HOST.md says how); for an older one
+ * start from a fresh one.
  */
-#define POPLARCHIME_STORE_SIZE 34312
-#define POPLARCHIME_STORE_SLOTS 512
+#define POPLARCHIME_STORE_SIZE 60308
+#define POPLARCHIME_STORE_SLOTS 900
 #define POPLARCHIME_SLOT_SIZE 67
 
 /*

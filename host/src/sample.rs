@@ -64,9 +64,12 @@ pub fn crowd(clients: usize) -> Vec<Client> {
     (0..clients).map(client).collect()
 }
 
-pub const STORE_SIZE: usize = 34_312;
-pub const SLOTS: usize = 512;
+pub const SLOTS: usize = 900;
 pub const SLOT_SIZE: usize = 67;
+pub const STORE_SIZE: usize = 8 + SLOTS * SLOT_SIZE;
+/// The sizes of stores from before versions 0.6.0, 0.5.0 and 0.4.0. The first had the slots of today, but fewer.
+pub const FORMER_SIZES: [usize; 3] = [34_312, 28_168, 17_928];
+pub const FORMER_SLOTS: usize = 512;
 /// Where the origin or the challenge begins in a slot.
 pub const ORIGIN: usize = 35;
 /// Where the bytes behind an origin begin.
@@ -267,18 +270,19 @@ mod tests {
         assert_eq!(clients[0].record().len(), 301);
         assert_eq!(clients[1].record().len(), 236);
         assert_eq!(slot_range(SLOTS - 1).end, STORE_SIZE);
+        assert_eq!(slot_range(FORMER_SLOTS - 1).end, FORMER_SIZES[0]);
     }
 
     #[test]
     fn a_slot_reads_back() {
         let mut store = empty_store();
         let entry = Slot { client: 1, farm: 2, scope: 3, origin: [5; 20], ..Slot::of(ACCESS, [7; 20], 4) };
-        set_slot(&mut store, 511, entry);
-        assert_eq!(slot(&store, 511), entry);
+        set_slot(&mut store, SLOTS - 1, entry);
+        assert_eq!(slot(&store, SLOTS - 1), entry);
         assert_eq!(store.iter().filter(|&&byte| byte != 0).count(), 1 + 20 + 4 + 20);
         let code = entry.turned(BOUND_CODE).challenged([6; 32]);
-        set_slot(&mut store, 511, code);
-        assert_eq!(slot(&store, 511), code);
+        set_slot(&mut store, SLOTS - 1, code);
+        assert_eq!(slot(&store, SLOTS - 1), code);
         assert_eq!((code.kind, code.challenge()), (BOUND_CHALLENGED_CODE, [6; 32]));
         assert_eq!(store.iter().filter(|&&byte| byte != 0).count(), 1 + 20 + 4 + 32);
     }

@@ -27,6 +27,7 @@ use Rattle.scope.specs.Set.{names}
 use Rattle.scope.specs.Value.{bitFrom, bitOf, union, readScope, chosen, spaced, scopeText}
 use Rattle.client_registry.specs.Registry.{distinct}
 use Rattle.client_registry.specs.Sample.{sampleConfidential, samplePublic, sampleClients}
+use Rattle.token_store.specs.Layout.{slotCount}
 use Rattle.token_store.specs.Store.{encode as encodeStore, encodeSlot, decodeSlot, concat, cut, Store, kindBoundCode, kindAccess, kindRefresh, freeSlot, fresh}
 use Rattle.token_store.specs.declared.Slot.{Slot}
 use Rattle.protocol.specs.declared.Failure.the-variants.{NoRoom}
@@ -45,7 +46,7 @@ use Rattle.protocol.proofs.Cases.{challenge, challenging}
 use Rattle.protocol.proofs.Starred.{countUp, rfcQuery}
 use Rattle.history.specs.Calls.{Call, authorization, token, check, handedTo, Result}
 use Rattle.history.specs.Contents.{Sort, code, access, refresh, Issue, noIssue, isExchange, isRefresh, isCredentials, noneBeyond, isWithinGranted, namesOr, askedOr, idIn, isAdmitted, codeIssue, exchangeIssues, refreshIssues, ownIssue, issuedBy, isSpentBy, asSpent, isSecondShowing, codeShown, isWithdrawnBy, standingAfter, Contents, nothingYet, withEvent, withEvents, twenties}
-use Rattle.history.specs.Slots.{holdsTokenFrom}
+use Rattle.history.specs.Slots.{slotsInAll, holdsTokenFrom}
 use Rattle.history.specs.Claim.{isRepeatedBy, isUnreserved, isAnsweredBy, verifies, isVerifierFor, mayExchange, mayRefresh, mayHaveOwn, mayPass}
 use Rattle.history.specs.Server.{isUnfitRefusal, isUnfitDecision, isUnfitCheck, isUnfit, isGranted, lengthOf, isLiveCheck, namedBy, isPassed, namedIn}
 use Rattle.history.proofs.AnyCall.{outcomeOn, asked, unfitTo}
@@ -511,37 +512,37 @@ pub verifier-characters : keep isUnreserved (countUp 256 0) ≡ bytes "-.0123456
 unfolding keep any
 verifier-characters = refl
 
--- ---- room: so many live access tokens stand beside the code or refresh token
+-- ---- room: beside the code or refresh token stand live access tokens, and so many slots are left
 
 unfoldable pub beside : ℕ → Issue → List Issue
-beside n e = e ∷ replicate n (tokenUntil access accessText 11 4600)
+beside left e = e ∷ replicate (slotsInAll - 1 - left) (tokenUntil access accessText 11 4600)
 
 unfoldable pub mayBeside : ℕ → List Bool
-mayBeside n =
-    mayExchange sampleClients 1001 (beside n (codeUntil codeText 11 1600)) header (repeating codeText)
-    ∷ mayRefresh sampleClients 1001 (beside n (tokenUntil refresh refreshText 11 2593000)) header (refreshFor refreshText [])
-    ∷ mayHaveOwn sampleClients 1001 (beside n (tokenUntil refresh refreshText 11 2593000)) header (ownFor [])
+mayBeside left =
+    mayExchange sampleClients 1001 (beside left (codeUntil codeText 11 1600)) header (repeating codeText)
+    ∷ mayRefresh sampleClients 1001 (beside left (tokenUntil refresh refreshText 11 2593000)) header (refreshFor refreshText [])
+    ∷ mayHaveOwn sampleClients 1001 (beside left (tokenUntil refresh refreshText 11 2593000)) header (ownFor [])
     ∷ []
 
--- a spent code that runs out at 1600 stands beside them
+-- a spent code that runs out at 1600 takes one more slot
 unfoldable pub mayBesideSpent : ℕ → ℕ → Bool
-mayBesideSpent t n =
-    mayExchange sampleClients t (asSpent (codeUntil codeText 11 1600) ∷ beside n (codeUntil lessText 11 1700)) header (repeating lessText)
+mayBesideSpent t left =
+    mayExchange sampleClients t (asSpent (codeUntil codeText 11 1600) ∷ beside (left + 1) (codeUntil lessText 11 1700)) header (repeating lessText)
 
--- the same by the 512 slots of a store
+-- the same by the slots of a store
 unfoldable pub slotUntil : ℕ → List ℕ → ℕ → Slot
 slotUntil kind handle expiry = record { kind = kind; handle = handle; client = 0; farm = 7; scope = 11; expiry = expiry; link = replicate 32 0 }
 
 unfoldable pub decidedBeside : ℕ → Slot → List ℕ → Decision
-decidedBeside n s b =
-    let slots = s ∷ replicate n (slotUntil kindAccess (replicate 20 9) 4600) ++ replicate (511 - n) freeSlot in
+decidedBeside left s b =
+    let slots = s ∷ replicate (slotCount - 1 - left) (slotUntil kindAccess (replicate 20 9) 4600) ++ replicate left freeSlot in
     decisionOn (planOf 1001 slots (countUp 40 0x60) (readToken sampleClients header b))
 
 unfoldable pub doneBeside : ℕ → List Decision
-doneBeside n =
-    decidedBeside n (slotUntil kindBoundCode (countUp 20 0) 1600) (repeating codeText)
-    ∷ decidedBeside n (slotUntil kindRefresh (countUp 20 0x34) 2593000) (refreshFor refreshText [])
-    ∷ decidedBeside n (slotUntil kindRefresh (countUp 20 0x34) 2593000) (ownFor [])
+doneBeside left =
+    decidedBeside left (slotUntil kindBoundCode (countUp 20 0) 1600) (repeating codeText)
+    ∷ decidedBeside left (slotUntil kindRefresh (countUp 20 0x34) 2593000) (refreshFor refreshText [])
+    ∷ decidedBeside left (slotUntil kindRefresh (countUp 20 0x34) 2593000) (ownFor [])
     ∷ []
 
 -- ---- all that, computed
@@ -591,10 +592,10 @@ pub record Computed : Type 0 where
   -- so that these hold tokens from it, and it does not
   pub token-held : holdsTokenFrom codeText (part (encodeStore (leftIn day)) (8 + 67) 67) ≡ true
   pub none-held : holdsTokenFrom codeText (part (encodeStore (leftIn day)) 8 67) ≡ false
-  -- the code or refresh token itself and 509 or 510 more, and two or one more, are 512
-  pub room-asked : mayBeside 509 ++ mayBeside 510 ++ mayBeside 511
+  -- two slots to exchange, one to refresh or for a client itself
+  pub room-asked : mayBeside 2 ++ mayBeside 1 ++ mayBeside 0
       ≡ true ∷ true ∷ true ∷ false ∷ true ∷ true ∷ false ∷ false ∷ false ∷ []
-  pub room-found : doneBeside 509 ++ doneBeside 510 ++ doneBeside 511
+  pub room-found : doneBeside 2 ++ doneBeside 1 ++ doneBeside 0
       ≡ Grant
       ∷ Grant
       ∷ Grant
@@ -606,7 +607,7 @@ pub record Computed : Type 0 where
       ∷ Refuse (Failed NoRoom)
       ∷ []
   -- a spent code takes room until it runs out
-  pub room-of-spent : mayBesideSpent 1001 508 ∷ mayBesideSpent 1001 509 ∷ mayBesideSpent 1599 509 ∷ mayBesideSpent 1600 509 ∷ []
+  pub room-of-spent : mayBesideSpent 1001 2 ∷ mayBesideSpent 1001 1 ∷ mayBesideSpent 1599 1 ∷ mayBesideSpent 1600 1 ∷ []
       ≡ true ∷ false ∷ false ∷ true ∷ []
 
 pub computed : Computed

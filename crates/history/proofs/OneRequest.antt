@@ -325,10 +325,13 @@ abbrev pub isRefreshableHeld : ℕ → HandleText → RefreshRequest → Held �
 isRefreshableHeld t p r e =
     isLive t (asSlot e) && (soughtKey soughtRefresh p (asSlot e) && (eqb (e .client) (r .client) && fits (r .scope) (e .scope)))
 
+-- room for so many more
+abbrev pub hasRoomHeld : ℕ → ℕ → List Held → Bool
+hasRoomHeld needed t standing = leb (count (λ e. isLive t (asSlot e)) standing + needed) slotCount
+
 module _ {t : ℕ} {slots : List Slot} {standing : List Held} {seen : List (List ℕ)} (v : Invariant t slots standing seen) (once : NeverTwice seen)
     (p : HandleText) where
-  -- room for k more
-  room-for : (k : ℕ) → leb k (room t slots) ≡ leb (count (λ e. isLive t (asSlot e)) standing + k) 512
+  room-for : (k : ℕ) → leb k (room t slots) ≡ hasRoomHeld k t standing
   room-for k = leb-room k (room t slots) (count (λ e. isLive t (asSlot e)) standing) (room-left v)
 
   -- ---- no handle that comes once is in use
@@ -352,7 +355,7 @@ module _ {t : ℕ} {slots : List Slot} {standing : List Held} {seen : List (List
     -- ---- what each request is answered
 
     pub exchange-answer : (d : DigestText) (r : ExchangeRequest) → isGrant (decisionOn (planFor t slots random p d (Exchange r)))
-        ≡ (any (isExchangeableHeld t p d r) standing && leb (count (λ e. isLive t (asSlot e)) standing + 2) 512)
+        ≡ (any (isExchangeableHeld t p d r) standing && hasRoomHeld 2 t standing)
     unfolding planFor exchangePlan every
     exchange-answer d r =
         grant-every (exchangePlan t slots random p d r .reasons)
@@ -377,7 +380,7 @@ module _ {t : ℕ} {slots : List Slot} {standing : List Held} {seen : List (List
         there = contained v once code p (λ x. mine x && repeats x && verified x)
 
     pub refresh-answer : (d : DigestText) (r : RefreshRequest) → isGrant (decisionOn (planFor t slots random p d (Refresh r)))
-        ≡ (any (isRefreshableHeld t p r) standing && leb (count (λ e. isLive t (asSlot e)) standing + 1) 512)
+        ≡ (any (isRefreshableHeld t p r) standing && hasRoomHeld 1 t standing)
     unfolding planFor refreshPlan every
     refresh-answer d r =
         grant-every (refreshPlan t slots random p r .reasons)
@@ -391,7 +394,7 @@ module _ {t : ℕ} {slots : List Slot} {standing : List Held} {seen : List (List
         there = contained v once refresh p (λ x. eqb (x .client) (r .client) && fits (r .scope) (x .scope))
 
     pub credentials-answer : (d : DigestText) (r : CredentialsRequest) → isGrant (decisionOn (planFor t slots random p d (Credentials r)))
-        ≡ leb (count (λ e. isLive t (asSlot e)) standing + 1) 512
+        ≡ hasRoomHeld 1 t standing
     unfolding planFor credentialsPlan every
     credentials-answer d r =
         grant-every (credentialsPlan t slots random r .reasons) ∙ rw first-unused (simp (Bool·not-not, and-true)) ∙ room-for 1

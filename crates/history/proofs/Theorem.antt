@@ -41,13 +41,13 @@ use Rattle.protocol.specs.Outcomes.{Handed, replyText, serveCheck}
 use Rattle.history.specs.Calls.{Call, authorization, token, check, handedTo, AllWellTyped, Result}
 use Rattle.history.specs.Server.{outcomeOf, isPassed, namedIn, namedBy, resultOf, ours}
 use Rattle.history.specs.Contents.{Sort, noIssue, code, access, refresh, Issue, isA, isLiveAt, isOf, originOf, valueOf, isExchange, isRefresh, isCredentials, isWithinGranted, askedOr, caller, isSecondShowing, codeShown, firstTwenty, lastTwenty, twenties, NeverTwice}
-use Rattle.history.specs.Slots.{holdsTokenFrom}
-use Rattle.history.specs.Claim.{isExchangeable, mayExchange, isRefreshable, mayRefresh, mayHaveOwn, mayPass, Answers, store, contained, standing, timeAt, next, Judged, Asks, Demand3, CredentialsYield}
+use Rattle.history.specs.Slots.{slotsInAll, holdsTokenFrom}
+use Rattle.history.specs.Claim.{isExchangeable, mayExchange, isRefreshable, mayRefresh, mayHaveOwn, mayPass, hasRoomFor, Answers, store, contained, standing, timeAt, next, Judged, Asks, Demand3, CredentialsYield}
 use Rattle.protocol.proofs.Reasons.{grant-every}
 use Rattle.history.proofs.HeldIssues.{Held, noneHeld, sought, asSlot, asIssue, issue-live, issue-key, issue-exchanged}
 use Rattle.history.proofs.Invariant.{Invariant, invariant-later, origin}
 use Rattle.history.proofs.Readings.{second-last, within-granted, given-asked}
-use Rattle.history.proofs.OneRequest.{exchange-has, refresh-has, exchange-none, refresh-none, isExchangeableHeld, isRefreshableHeld, exchange-answer, refresh-answer, credentials-answer, check-passes, check-names}
+use Rattle.history.proofs.OneRequest.{exchange-has, refresh-has, exchange-none, refresh-none, isExchangeableHeld, isRefreshableHeld, hasRoomHeld, exchange-answer, refresh-answer, credentials-answer, check-passes, check-names}
 use Rattle.history.proofs.SoundStores.{slots-same, slots-freed, slot-read-back}
 use Rattle.history.proofs.AnyCall.{outcomeOn, asked, unfitTo, isPast, seen-past, past-buffers, past-registry, fit-size, planOn, store-on, granted-on, refused-left}
 use Rattle.history.proofs.Written.{textOn, written-on}
@@ -181,6 +181,9 @@ module _ (registry : List ℕ) (small : Bytes registry) (cs : List Call) (typed 
         ∙ sym (origin-shown clients held (λ e. e .scope) sort text refl)
         ∙ ap (λ (l : List Issue). originOf sort text l .scope) (sym (kept .issues))
 
+    room-held : (needed : ℕ) → hasRoomHeld needed t held ≡ hasRoomFor needed t (standing ours registry cs)
+    room-held needed = ap (λ (n : ℕ). leb (n + needed) slotsInAll) (sym (count-held _ _ (issue-live clients t)))
+
     -- ---- an exchange
 
     module _ (is : isExchange body ≡ true) where
@@ -212,7 +215,7 @@ module _ (registry : List ℕ) (small : Bytes registry) (cs : List Call) (typed 
       exchange-claim =
           exchange-granted
           ∙ exchange-answer invariant once (readHandle presentedCode) random new answered (exchangeAsked clients header body)
-          ∙ ap₂ _&&_ (sym (any-held _ _ exchangeable)) (ap (λ (n : ℕ). leb (n + 2) 512) (sym (count-held _ _ (issue-live clients t))))
+          ∙ ap₂ _&&_ (sym (any-held _ _ exchangeable)) (room-held 2)
 
       exchange-reply : next ours registry cs asks .granted ≡ true
           → let scope = originOf code presentedCode (standing ours registry cs) .scope in
@@ -253,7 +256,7 @@ module _ (registry : List ℕ) (small : Bytes registry) (cs : List Call) (typed 
       refresh-claim =
           refresh-granted
           ∙ refresh-answer invariant once (readHandle tokenShown) random new noChallenge (refreshAsked clients header body)
-          ∙ ap₂ _&&_ (sym (any-held _ _ refreshable)) (ap (λ (n : ℕ). leb (n + 1) 512) (sym (count-held _ _ (issue-live clients t))))
+          ∙ ap₂ _&&_ (sym (any-held _ _ refreshable)) (room-held 1)
 
       refresh-reply : next ours registry cs asks .granted ≡ true
           → let granted = originOf refresh tokenShown (standing ours registry cs) .scope in
@@ -282,14 +285,14 @@ module _ (registry : List ℕ) (small : Bytes registry) (cs : List Call) (typed 
       unrefused-is = grant-every (credentialsReasons client body) ∙ simp (Bool·not-not, and-true, within-granted)
 
       credentials-granted : next ours registry cs asks .granted
-          ≡ (client .confidential && isWithinGranted (formValue body (bytes "scope")) (client .scope) && leb (count (λ e. isLive t (asSlot e)) held + 1) 512)
+          ≡ (client .confidential && isWithinGranted (formValue body (bytes "scope")) (client .scope) && hasRoomHeld 1 t held)
       credentials-granted =
           granted-as read-credentials ∙ unless-grants t slots random _ (credentialsReading clients header body)
           ∙ ap₂ _&&_ unrefused-is (credentials-answer invariant once noHandle random new noChallenge (credentialsAsked clients header body))
 
       credentials-claim : next ours registry cs asks .granted ≡ mayHaveOwn clients t (standing ours registry cs) header body
       unfolding mayHaveOwn
-      credentials-claim = rw (caller-is clients header body, count-held _ _ (issue-live clients t)) credentials-granted
+      credentials-claim = rw (caller-is clients header body, ← (room-held 1)) credentials-granted
 
       credentials-reply : next ours registry cs asks .granted ≡ true
           → let scope = askedOr (formValue body (bytes "scope")) (clientAt clients (caller clients header body) .scope) in
@@ -364,7 +367,7 @@ module _ (registry : List ℕ) (small : Bytes registry) (cs : List Call) (typed 
         ap (λ (l : List Issue). isSecondShowing clients at l c) (kept .issues)
         ∙ again-second clients at slots (invariant-at (handedTo c .clock) (once-seen c judged)) (once-seen c judged) c
 
-    module _ (i : ℕ) (below : i < 512) where
+    module _ (i : ℕ) (below : i < slotsInAll) where
       abbrev slot : List ℕ
       slot = part (store ours registry cs) (slotStart i) slotSize
 

@@ -36,7 +36,7 @@ use Rattle.protocol.proofs.Cases.{challenge}
 use Rattle.protocol.proofs.Starred.{countUp, rfcQuery}
 use Rattle.history.specs.Calls.{Call, authorization, token, check, WellTyped, AllWellTyped, Result, storeAfterAll, events, freshStore, handedTo}
 use Rattle.history.specs.Contents.{code, access, refresh, Issue, isA, isLiveAt, isOf, originOf, valueOf, isExchange, isRefresh, isCredentials, askedOr, idIn, caller, isAdmitted, isSecondShowing, codeShown, firstTwenty, lastTwenty, Contents, nothingYet, withEvents, twenties, noIssue, noneBeyond, isWithinGranted, namesOr}
-use Rattle.history.specs.Slots.{holdsTokenFrom}
+use Rattle.history.specs.Slots.{slotsInAll, holdsTokenFrom}
 use Rattle.history.specs.Claim.{mayExchange, mayRefresh, mayHaveOwn, mayPass, Answers, contained, next, Judged, Asks, Demand3, isRepeatedBy, isAnsweredBy, verifies}
 use Rattle.history.specs.Server.{ours}
 use Rattle.history.proofs.SoundStores.{sound-fresh}
@@ -223,7 +223,7 @@ module _ (run : Run) where
       rw (← sample-clients) (claims .locates query decision farm handed (judged (authorization query decision farm handed) j) granted)
 
   by-spends-nothing : (c : Call) → isJudged k c ≡ true → after c .granted ≡ false
-      → (i : ℕ) → i < 512
+      → (i : ℕ) → i < slotsInAll
       → let slot = part (encodeStore (leftIn cs)) (8 + i * 67) 67 in
       let second = isSecondShowing sampleClients (max (handedTo c .clock) (k .highest)) (k .standing) c in
       part (after c .store) (8 + i * 67) 67 ≡ cond (second && holdsTokenFrom (codeShown c) slot) (replicate 67 0) slot
@@ -344,7 +344,7 @@ pub record Shown : Type 0 where
   pub located-barn : textIn (afterDay (authorization barnQuery 1 9 (handedAt 1510 20 0xC0)))
       ≡ bytes "https://barn.example/r?x=1&code=c0c1c2c3c4c5c6c7c8c9cacbcccdcecfd0d1d2d3"
   -- a try without the redirect_uri is refused, and the code's slot, bound, for client 0, farm 7, scopes 10 and until 2106, keeps its bytes
-  pub kept : (i : ℕ) → i < 512
+  pub kept : (i : ℕ) → i < slotsInAll
       → part (afterDay (asking header (exchangeOf lessText) 1510) .store) (8 + i * 67) 67 ≡ part (encodeStore (leftIn day)) (8 + i * 67) 67
   pub kept-code : part (afterDay (asking header (exchangeOf lessText) 1510) .store) (8 + 5 * 67) 67
       ≡ 2 ∷ countUp 20 3 ++ 0 ∷ 0 ∷ 0 ∷ 0 ∷ 7 ∷ 10 ∷ 0 ∷ 0 ∷ 0 ∷ 0 ∷ 0 ∷ 0 ∷ 8 ∷ 58 ∷ replicate 32 0

@@ -18,16 +18,16 @@ use Rattle.protocol.specs.Authorization.{location, codeParameter}
 use Rattle.protocol.specs.Token.{tokenReply, refreshMember}
 use Rattle.protocol.specs.Outcomes.{Handed}
 use Rattle.history.specs.Calls.{Call, authorization, token, check, handedTo, Result, Server, storeAfterAll, events, freshStore}
-use Rattle.history.specs.Slots.{holdsTokenFrom}
+use Rattle.history.specs.Slots.{slotsInAll, holdsTokenFrom}
 use Rattle.history.specs.Contents.{code, access, refresh, Issue, isA, isLiveAt, isOf, originOf, valueOf, isExchange, isRefresh, isCredentials, isWithinGranted, askedOr, caller, isAdmitted, isSecondShowing, codeShown, firstTwenty, lastTwenty, Contents, nothingYet, withEvents, twenties, NeverTwice}
 
 -- ---- what the calls must contain
 
 -- "the codes, access and refresh tokens that the calls issued .. and live at T .. plus the slots needed (two to exchange, one to
--- refresh) are at most 512"; "one slot" for a client's token for itself. "its room counts spent codes until they run out", and an
--- exchange's own code is no longer "left out of demand 3's room"
+-- refresh) are at most" the slots that there are; "one slot" for a client's token for itself. "its room counts spent codes until
+-- they run out", and an exchange's own code is no longer "left out of demand 3's room"
 abbrev pub hasRoomFor : ℕ → ℕ → List Issue → Bool
-hasRoomFor needed t standing = leb (count (isLiveAt t) standing + needed) 512
+hasRoomFor needed t standing = leb (count (isLiveAt t) standing + needed) slotsInAll
 
 -- "any bound redirect address is repeated"
 unfoldable pub isRepeatedBy : Value → Value → Bool
@@ -168,10 +168,10 @@ module _ (server : Server) (registry : List ℕ) (cs : List Call) where
         → let redirect = clientAt clients (numberOf (valueOf query (bytes "client_id")) clients) .redirect in
         let parameter = codeParameter (firstTwenty (handed .random)) in
         Answers handed (next (authorization query decision farm handed)) (location redirect parameter (formValue query (bytes "state")))
-    -- "A refused try spends nothing": "after a refused try every slot keeps its bytes", 512 slots of 67 bytes behind the mark. "its last
+    -- "A refused try spends nothing": "after a refused try every slot keeps its bytes", each of 67 bytes, behind the mark. "its last
     -- sentence excepts that one refusal, which clears those tokens and nothing else"
     pub spendsNothing : (c : Call) → Judged c → next c .granted ≡ false
-        → (i : ℕ) → i < 512
+        → (i : ℕ) → i < slotsInAll
         → let slot = part store (8 + i * 67) 67 in
         let clears = isSecondShowing clients (timeAt (handedTo c .clock)) standing c && holdsTokenFrom (codeShown c) slot in
         part (next c .store) (8 + i * 67) 67 ≡ cond clears (replicate 67 0) slot

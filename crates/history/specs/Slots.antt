@@ -1,4 +1,4 @@
--- What the claims look at in a store's bytes: whether a slot holds a token that came from a code.
+-- What the claims know of a store: how many slots it has, and by a slot's bytes whether it holds a token that came from a code.
 use Prim.Native.Nat.{ℕ}
 use mathlib.Core.Bool.{Bool, _&&_, _||_}
 use mathlib.Core.List.{List}
@@ -7,6 +7,10 @@ use lib.ListN.{take}
 use Rattle.octets.specs.Lists.{same}
 use Rattle.encoding.specs.Hex.{readHandle}
 use Rattle.token_store.specs.Store.{decodeSlot}
+
+-- "In August 512 slots ran out and apps got 503. Raise it to 900": the claims' own number
+abbrev pub slotsInAll : ℕ
+slotsInAll = 900
 
 -- "A presented handle is 40 lower-case hex digits; any other text matches no slot."
 abbrev pub isTextOf : List ℕ → List ℕ → Bool

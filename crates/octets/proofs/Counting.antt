@@ -15,6 +15,7 @@ use native.Mathlib.Numerals.{add-one}
 use native.Mathlib.Omega.{arith}
 use lib.ListN.{length, drop, getD, replicate, drop-of-length-le}
 use lib.Seq.{drop-cons}
+use Rattle.octets.proofs.Booleans.{cond-of}
 use Rattle.octets.specs.Search.{bit, count, any, firstOr, replaceFirst, replaceAll, keep}
 
 -- ---- a test as a number
@@ -179,6 +180,13 @@ module _ {A : Type 0} where
       by : (a : Bool) → (a || any k xs) ≡ false → (any k xs ≡ false → firstOr d k xs ≡ d) → cond a x (firstOr d k xs) ≡ d
       by true e ih = absurd (false≢true (sym e))
       by false e ih = ih e
+
+  -- to put behind a list what is found where nothing passes changes nothing
+  pub firstOr-behind : (k : A → Bool) (d : A) (l : List A) (n : ℕ) → firstOr d k (l ++ replicate n d) ≡ firstOr d k l
+  unfolding firstOr
+  firstOr-behind k d [] zero = refl
+  firstOr-behind k d [] (suc n) = cond-of (λ x. x ≡ d) (k d) d _ (λ e. refl) (λ e. firstOr-behind k d [] n)
+  firstOr-behind k d (x ∷ xs) n = ap (λ (y : A). cond (k x) x y) (firstOr-behind k d xs n)
 
   pub count-firstOr : (k g : A → Bool) (d : A) (l : List A) → count k l ≤ 1 → g d ≡ false → count (λ x. k x && g x) l ≡ bit (g (firstOr d k l))
   unfolding count firstOr

@@ -1,7 +1,7 @@
 -- Laws of the definitions of specs/Lists.antt that a scan asks for, and of parts.
 --
 -- In order: `every`, one element more at the back; `same`, as an equation and as a scan; lists of bytes; a text in a
--- table; parts: their length, parts of parts, a part that reaches the end, and parts by their end.
+-- table; parts: their length, parts of parts, of a longer list, a part that reaches the end, and parts by their end.
 --
 -- Not here: a run of stores (`Stores`), `indexOf` and `splitOn` (`Pieces`), `take`, `drop` and `getD` alone (`lib.Seq`).
 -- Assumes nothing.
@@ -15,7 +15,7 @@ use native.Mathlib.Omega.{arith}
 use borrow.Author.Tests.{eq-eqb, eqb-true}
 use lib.Dec.{eqb, lit<}
 use lib.ListN.{length, take, drop, getD, replicate, length-append, length-drop}
-use lib.Seq.{take-nil, take-suc, drop-cons, take-all, getD-drop, drop-drop, take-take, length-take-le, take-add, take-append-seam}
+use lib.Seq.{take-nil, take-suc, drop-cons, take-all, getD-drop, drop-drop, take-take, length-take-le, take-add, take-append-seam, take-append-le, drop-append-le}
 use Rattle.octets.proofs.Booleans.{by-test, and-left, and-right}
 use Rattle.octets.specs.Text.{padded}
 use Rattle.octets.specs.Lists.{part, Bytes, every, isZero, same}
@@ -27,6 +27,11 @@ module _ {A : Type 0} (p : A → Bool) where
   unfolding every
   every-append [] ys = refl
   every-append (x ∷ xs) ys = ap (λ (b : Bool). p x && b) (every-append xs ys) ∙ sym (and-assoc (p x) (every p xs) (every p ys))
+
+  pub every-replicate : (n : ℕ) (x : A) → p x ≡ true → every p (replicate n x) ≡ true
+  unfolding every
+  every-replicate zero x e = refl
+  every-replicate (suc n) x e = rw e (every-replicate n x e)
 
   pub every-none : (s : List A) → every p (take 0 s) ≡ true
   unfolding every
@@ -166,6 +171,10 @@ part-part l at m k n h = rw (drop-take (drop at l) m k, take-take n (m - k) (dro
 -- a part in two
 pub part-add : (l : List ℕ) (at m n : ℕ) → part l at (m + n) ≡ part l at m ++ part l (at + m) n
 part-add l at m n = take-add m n (drop at l) ∙ rw drop-drop
+
+-- a part of what stands first
+pub part-append : (l m : List ℕ) (at n : ℕ) → at + n ≤ length l → part (l ++ m) at n ≡ part l at n
+part-append l m at n h = rw (drop-append-le at l m (omega arith)) (take-append-le n (drop at l) m (simp length-drop (omega arith)))
 
 -- a part that reaches the end
 pub part-rest : (s : List ℕ) (at : ℕ) → part s at (length s - at) ≡ drop at s

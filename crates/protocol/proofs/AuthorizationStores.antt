@@ -26,7 +26,7 @@ use Rattle.protocol.specs.Requests.{askedBy, scopeAsked, fits, scopeGive
 use Rattle.protocol.specs.Authorization.{isBadQuery, queryClient, isBadClient, isBadRedirect, isSoundState, isBadState, challengeGiven, isBadChallenge, isInvalidRequest, isOtherType, isInvalidScope, codeAsked, pageReasons, redirectReasons, readAuthorization, separator, stateText, location, codeParameter, errorParameter, locationText}
 use Rattle.protocol.specs.Granting.{refusedPlan, codePlan, planFor, slotsBy}
 use Rattle.protocol.specs.Outcomes.{serveAuthorization}
-use Rattle.protocol.proofs.Cases.{authorization, ShortStore, holding, slot, linked, from, spent, challenge, challenging, countUp, Case, Row, row}
+use Rattle.protocol.proofs.Cases.{authorization, ShortStore, holding, lastly, slot, linked, from, spent, challenge, challenging, countUp, Case, Row, row}
 
 -- ---- slots
 
@@ -49,10 +49,6 @@ until t = from (countUp 20 140) (slot 3 (countUp 20 120) 1 9 1 t)
 -- a store whose slots are all in use and live but for the first of them
 abbrev crowded : ℕ → List Slot → ShortStore
 crowded time slots = record { time = time; first = slots; rest = other }
-
--- a store whose last slot is this, all others being the refresh token
-abbrev lastly : ℕ → Slot → ShortStore
-lastly time s = record { time = time; first = replicate 511 other; rest = s }
 
 -- ---- calls: of client 0 with a state, allowed for farm 7, at clock 1000 with the random bytes 00 to 13 hex
 
@@ -166,11 +162,11 @@ roomAndClashes =
     ∷ row (full (crowded 0 (other ∷ other ∷ until 1001 ∷ []))) refl
     ∷ row (issued 1000 (crowded 0 (other ∷ other ∷ until 1000 ∷ [])) (crowded 1000 (other ∷ other ∷ codeAt 1000 ∷ []))) refl
     ∷ row (issued 1000 (crowded 0 (until 1000 ∷ [])) (crowded 1000 (codeAt 1000 ∷ []))) refl
-    ∷ row (issued 1000 (lastly 0 (until 1000)) (lastly 1000 (codeAt 1000))) refl
-    ∷ row (full (lastly 0 (until 1001))) refl
+    ∷ row (issued 1000 (lastly 0 [] other (until 1000)) (lastly 1000 [] other (codeAt 1000))) refl
+    ∷ row (full (lastly 0 [] other (until 1001))) refl
     -- one is free
     ∷ row (issued 1000 (crowded 0 (other ∷ freeSlot ∷ [])) (crowded 1000 (other ∷ codeAt 1000 ∷ []))) refl
-    ∷ row (issued 1000 (lastly 0 freeSlot) (lastly 1000 (codeAt 1000))) refl
+    ∷ row (issued 1000 (lastly 0 [] other freeSlot) (lastly 1000 [] other (codeAt 1000))) refl
     -- a code that is spent is in use until its old expiry, and room from then on
     ∷ row (full (crowded 0 (spent (barnCode 1001) ∷ []))) refl
     ∷ row (issued 1000 (crowded 0 (other ∷ spent (barnCode 1000) ∷ [])) (crowded 1000 (other ∷ codeAt 1000 ∷ []))) refl
@@ -189,7 +185,7 @@ roomAndClashes =
     ∷ row (clash (countUp 20 0) (holding 0 (slot 4 (countUp 20 0) 1 9 1 0 ∷ []))) refl
     ∷ row (clash (countUp 20 0) (holding 0 (slot 5 (countUp 20 0) 1 9 1 1001 ∷ []))) refl
     ∷ row (clash (countUp 20 0) (holding 0 (other ∷ slot 5 (countUp 20 0) 1 9 1 1000 ∷ []))) refl
-    ∷ row (clash (countUp 20 0) (record { time = 0; first = replicate 511 freeSlot; rest = slot 3 (countUp 20 0) 1 9 1 1000 })) refl
+    ∷ row (clash (countUp 20 0) (lastly 0 [] freeSlot (slot 3 (countUp 20 0) 1 9 1 1000))) refl
     -- they differ from it in the first or the last byte
     ∷ row (issued 1000 (holding 0 (slot 3 (1 ∷ countUp 19 1) 1 9 1 2000 ∷ []))
     (holding 1000 (slot 3 (1 ∷ countUp 19 1) 1 9 1 2000 ∷ codeAt 1000 ∷ []))) refl

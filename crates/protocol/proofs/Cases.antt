@@ -2,7 +2,7 @@
 --
 -- A case is a call with all that it is handed, and what the paper has for it: the numbers that a C host sees, the text that is
 -- written, and the store after. `Decided` says of a case that the outcome function of its endpoint, from raw bytes, comes to just
--- that, whatever an output of the case's length holds. To compute over the 34,312 bytes of a store would be slow, so `agrees`
+-- that, whatever an output of the case's length holds. To compute over the bytes of a store would be slow, so `agrees`
 -- computes on the store as a record, and `decided` is the law that the bytes come to the same. A table is a list of rows, each a case
 -- that agrees by computation; of every table it follows that each of its cases is decided (`all-decided`).
 --
@@ -23,7 +23,7 @@ use Rattle.octets.specs.Lists.{every, same}
 use Rattle.octets.specs.BigEndian.{bigEndianBytes}
 use Rattle.octets.specs.Search.{bit}
 use Rattle.octets.proofs.Booleans.{and-left, and-right, and-implied}
-use Rattle.octets.proofs.Lists.{every-append, same-eq}
+use Rattle.octets.proofs.Lists.{every-append, every-replicate, same-eq}
 use Rattle.octets.proofs.Searches.{every-each}
 use Rattle.client_registry.specs.Registry.{fitRegistry, clientsOf}
 use Rattle.token_store.specs.Layout.{timeSize, slotCount, storeSize, handleSize, farmSize, expirySize, linkSize, latestTime}
@@ -51,7 +51,7 @@ pub data Call : Type 0 where
   token : (header body : List ℕ) → Call
   check : (presented : List ℕ) → Call
 
--- a store of 512 slots: the first of them, and what each of the others is
+-- a store: the first of its slots, and what each of the others is
 pub record ShortStore : Type 0 where
   pub time : ℕ
   pub first : List Slot
@@ -66,6 +66,10 @@ storeOf l = record { time = l .time; slots = slotsOf l }
 -- a store of these slots and free ones
 abbrev pub holding : ℕ → List Slot → ShortStore
 holding time slots = record { time = time; first = slots; rest = freeSlot }
+
+-- a store of these slots and then others, all alike but for the last of all
+abbrev pub lastly : ℕ → List Slot → Slot → Slot → ShortStore
+lastly time slots others s = record { time = time; first = slots ++ replicate (slotCount - 1 - length slots) others; rest = s }
 
 -- a slot by its fields, the link being zero, as in codes without a challenge
 abbrev pub slot : (kind : ℕ) (handle : List ℕ) (client farm scope expiry : ℕ) → Slot
@@ -298,11 +302,6 @@ each : (bs : List Bool) → allOf bs ≡ true → Each bs
 unfolding Each
 each [] e = tt
 each (b ∷ bs) e = (and-left b (allOf bs) e, each bs (and-right b (allOf bs) e))
-
-every-replicate : {A : Type 0} (p : A → Bool) (n : ℕ) (x : A) → p x ≡ true → every p (replicate n x) ≡ true
-unfolding every
-every-replicate p zero x e = refl
-every-replicate p (suc n) x e = rw e (every-replicate p n x e)
 
 every-some : {A : Type 0} (p : A → Bool) (n : ℕ) (x : A) → 0 < n → every p (replicate n x) ≡ p x
 unfolding every

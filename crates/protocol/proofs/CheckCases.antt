@@ -17,7 +17,7 @@ use Rattle.token_store.specs.declared.Slot.{Slot}
 use Rattle.protocol.specs.Refusals.{firstOf}
 use Rattle.protocol.specs.Granting.{checkSlots}
 use Rattle.protocol.specs.Outcomes.{serveCheck}
-use Rattle.protocol.proofs.Cases.{check, ShortStore, holding, slot, from, countUp, Case, Row, row}
+use Rattle.protocol.proofs.Cases.{check, ShortStore, holding, lastly, slot, from, countUp, Case, Row, row}
 
 -- ---- calls
 
@@ -77,8 +77,8 @@ checked =
     ∷ row (notLive named 1000 (from handle (slot 3 (countUp 20 7) 1 7 9 5000) ∷ [])) refl
     -- it is found behind slots of other kinds and handles, and at the last place
     ∷ row (live 1000 4000 (slot 4 handle 1 7 9 9000 ∷ slot 3 (countUp 20 172) 0 7 9 9000 ∷ access 5000 ∷ [])) refl
-    ∷ row (checks named 1000 (record { time = 0; first = replicate 511 freeSlot; rest = access 5000 })
-    (0 ∷ 1 ∷ 1 ∷ (2 ^ 32 - 1) ∷ 9 ∷ 4000 ∷ []) (record { time = 1000; first = replicate 511 freeSlot; rest = access 5000 })) refl
+    ∷ row (checks named 1000 (lastly 0 [] freeSlot (access 5000))
+    (0 ∷ 1 ∷ 1 ∷ (2 ^ 32 - 1) ∷ 9 ∷ 4000 ∷ []) (lastly 1000 [] freeSlot (access 5000))) refl
     -- of two with the same handle the lowest counts, even if it has run out
     ∷ row (live 1000 4000 (access 5000 ∷ slot 3 handle 0 7 11 9000 ∷ [])) refl
     ∷ row (notLive named 1000 (access 1000 ∷ slot 3 handle 0 7 11 9000 ∷ [])) refl

@@ -37,7 +37,7 @@ use Rattle.protocol.specs.ClientForms.{isInvalidForm, lowerCase, sameAny
 use Rattle.protocol.specs.Token.{challengeAnswered, readExchange, readRefresh, readCredentials, readGrant, readToken, errorReply, refusalReply, tokenReply, refreshMember, challenges}
 use Rattle.protocol.specs.Granting.{refusedPlan, exchangePlan, refreshPlan, credentialsPlan, planFor, slotsBy, checkSlots}
 use Rattle.protocol.specs.Outcomes.{replyText, serveToken, serveCheck}
-use Rattle.protocol.proofs.Cases.{ShortStore, slot, from, spent, countUp, Row}
+use Rattle.protocol.proofs.Cases.{ShortStore, lastly, slot, from, spent, countUp, Row}
 use Rattle.protocol.proofs.TokenCases.{handle, code, unboundCode, boundCode, refreshToken, accessToken, runOut, until, twin, refreshTwin, accessTwin, access, refresh, renewed, some, crowded, at, Said, invalidRequest, invalidClient, challenged, invalidGrant, unsupported, noRoom, clash, bothTokensOf, accessAloneOf, bothTokens, accessAlone, twoHandles, nextHandles, Visit, row, call, refused, basic, exchange, addressless, barn, refreshing, padded, newAccess, newRefresh, exchangesIn}
 use Rattle.protocol.proofs.CredentialsCases.{forItself, wrongSecret, millBasic, ownTokenOf, ownToken, checked}
 
@@ -220,7 +220,7 @@ spentCases =
     ∷ row (clears (from (handle 0) accessTwin)) refl
     ∷ row (clears (renewed newRefresh 1599 (handle 80) 2)) refl
     ∷ row
-    (call (record { time = 1000; first = spent code ∷ replicate 510 freeSlot; rest = newRefresh }) 1599 nextHandles basic exchange invalidGrant
+    (call (lastly 1000 (spent code ∷ []) freeSlot newRefresh) 1599 nextHandles basic exchange invalidGrant
     (at 1599 withdrawn)) refl
     ∷ row
     (call (record { time = 1000; first = spent code ∷ []; rest = newAccess }) 1599 nextHandles basic exchange invalidGrant
@@ -306,7 +306,7 @@ spentCases =
     ∷ row (refused (some (spentTwin 0 1600 ∷ came 3 0 1600 ∷ code ∷ [])) 1599 (handle 40 ++ handle 52) basic exchange clash) refl
     -- it stands in the last slot of all
     ∷ row
-    (refused (record { time = 1000; first = spent code ∷ newAccess ∷ replicate 509 freeSlot; rest = twin 0 1599 }) 1599 nextHandles basic
+    (refused (lastly 1000 (spent code ∷ newAccess ∷ []) freeSlot (twin 0 1599)) 1599 nextHandles basic
     exchange invalidGrant) refl
     -- an unspent code of another handle, and tokens with this handle, stop nothing
     ∷ row

@@ -1,12 +1,14 @@
--- The bytes of a store, by computation: "First the mark, 8 bytes, big-endian ..; then 512 slots": "kind, handle 20, client number 1, farm 4,
+-- The bytes of a store, by computation: "First the mark, 8 bytes, big-endian"; then the slots: "kind, handle 20, client number 1, farm 4,
 -- scope set 1, expiry 8 (farm and expiry big-endian)." Then a token's origin, or a challenge, "its 32 bytes in the place where tokens
--- hold their origin"; "every slot becomes 67 bytes, zero-filled .., the ledger 34,312". The cases write a store as a record; by this they
--- speak of the paper's bytes.
+-- hold their origin"; "every slot becomes 67 bytes, zero-filled". The cases write a store as a record; by this they speak of the
+-- paper's bytes.
 -- Assumes nothing.
 use mathlib.Core.Path.{_≡_, refl}
 use mathlib.Core.List.{[], _∷_, _++_}
+use Prim.Native.Nat.{_-_, _*_}
 use lib.ListN.{replicate}
 use Rattle.octets.specs.BigEndian.{bigEndianBytes}
+use Rattle.token_store.specs.Layout.{slotCount, slotSize}
 use Rattle.token_store.specs.Store.{freeSlot, concat, encodeSlot, encode}
 use Rattle.token_store.specs.declared.Slot.{Slot}
 use Rattle.protocol.proofs.Cases.{holding, slot, linked, from, spent, countUp, storeOf}
@@ -43,6 +45,6 @@ store-bytes : encode (storeOf (holding 0x1112131415 (bound ∷ spent bound ∷ r
     ∷ 17 ∷ 18 ∷ 19 ∷ 20 ∷ 21 ∷ 22 ∷ 23 ∷ 24
     ∷ countUp 20 100
     ++ replicate 12 0
-    ++ replicate 34103 0
+    ++ replicate ((slotCount - 3) * slotSize) 0
 unfolding bound refresh freeSlot concat encodeSlot encode bigEndianBytes
 store-bytes = refl

@@ -37,7 +37,7 @@ use Rattle.protocol.specs.Token.{challengeAnswered, readExchange, readRe
 use Rattle.protocol.specs.Granting.{refusedPlan, exchangePlan, refreshPlan, planFor, slotsBy}
 use Rattle.protocol.specs.Outcomes.{replyText, serveToken}
 use Rattle.protocol.proofs.TokenRows.{agreesOn, rowOn}
-use Rattle.protocol.proofs.Cases.{token, ShortStore, holding, slot, linked, from, spent, countUp, Case, Row}
+use Rattle.protocol.proofs.Cases.{token, ShortStore, holding, lastly, slot, linked, from, spent, countUp, Case, Row}
 
 -- ---- clients, slots and stores
 
@@ -132,7 +132,7 @@ held = heldWith code unboundCode boundCode runOut freeSlot
 
 -- one whose last slot alone is in use, and has run out
 abbrev pub lastUsed : ShortStore
-lastUsed = record { time = 1000; first = code ∷ replicate 510 freeSlot; rest = until 1000 }
+lastUsed = lastly 1000 (code ∷ []) freeSlot (until 1000)
 
 -- ---- answers
 
@@ -591,8 +591,8 @@ tokenCases =
     ∷ row (exchangesIn (freeSlot ∷ until 1599 ∷ code ∷ freeSlot ∷ []) (newAccess ∷ newRefresh ∷ spent code ∷ freeSlot ∷ [])) refl
     -- the last slot of all
     ∷ row
-    (call (some (code ∷ freeSlot ∷ replicate 509 accessToken)) 1599 twoHandles basic exchange (bothTokens "power peak bill")
-    (record { time = 1599; first = spent code ∷ newAccess ∷ replicate 509 accessToken; rest = newRefresh })) refl
+    (call (lastly 1000 (code ∷ freeSlot ∷ []) accessToken freeSlot) 1599 twoHandles basic exchange (bothTokens "power peak bill")
+    (lastly 1599 (spent code ∷ newAccess ∷ []) accessToken newRefresh)) refl
     -- a refresh: none, for its own slot stays; one
     ∷ row (refused (crowded (refreshToken ∷ [])) 1599 twoHandles basic refreshing noRoom) refl
     ∷ row (refused (crowded (refreshToken ∷ until 1600 ∷ [])) 1599 twoHandles basic refreshing noRoom) refl

@@ -3,7 +3,7 @@
 -- A call that is refused so answers its number and nothing else, writes nothing and changes nothing: `after` is the store as it was.
 -- A call that passes is answered at once with what an empty query, an empty body or no token gets, and the store has its time.
 --
--- Not here: stores of another length than 34,312 bytes (`StoreLength`).
+-- Not here: stores of another length (`StoreLength`).
 use Prim.Native.Nat.{ℕ, zero, suc, _+_, _-_, _^_}
 use mathlib.Core.Path.{refl}
 use mathlib.Core.List.{List, [], _∷_, _++_}
@@ -29,7 +29,7 @@ use Rattle.protocol.specs.ClientForms.{isInvalidForm, formReasons}
 use Rattle.protocol.specs.Token.{readToken, errorReply, refusalReply, challenges}
 use Rattle.protocol.specs.Granting.{refusedPlan, codePlan, planFor, slotsBy, checkSlots}
 use Rattle.protocol.specs.Outcomes.{serveAuthorization, replyText, serveToken, serveCheck}
-use Rattle.protocol.proofs.Cases.{Call, authorization, token, check, ShortStore, holding, slot, linked, challenge, challenging, countUp, Case, Row, row}
+use Rattle.protocol.proofs.Cases.{Call, authorization, token, check, ShortStore, holding, lastly, slot, linked, challenge, challenging, countUp, Case, Row, row}
 
 -- ---- calls
 
@@ -258,9 +258,9 @@ slots =
     ∷ row (storeUnfit (oneSlot (linked (oneByte 31) freeSlot))) refl
     -- one unfit slot is enough, at the last place too, run out or not
     ∷ row (storeUnfit (holding 0 (slot 3 (countUp 20 0) 0 7 11 1600 ∷ slot 3 (countUp 20 1) 0 7 0 1 ∷ []))) refl
-    ∷ row (storeUnfit (record { time = 0; first = replicate 511 freeSlot; rest = slot 8 (countUp 20 0) 0 7 11 1 })) refl
-    ∷ row (storeFit (record { time = 0; first = replicate 511 freeSlot; rest = slot 4 (countUp 20 0) 0 7 11 1 })) refl
-    ∷ row (storeUnfit (record { time = 0; first = replicate 511 freeSlot; rest = linked (oneByte 31) (slot 5 (countUp 20 0) 0 7 11 1) })) refl
+    ∷ row (storeUnfit (lastly 0 [] freeSlot (slot 8 (countUp 20 0) 0 7 11 1))) refl
+    ∷ row (storeFit (lastly 0 [] freeSlot (slot 4 (countUp 20 0) 0 7 11 1))) refl
+    ∷ row (storeUnfit (lastly 0 [] freeSlot (linked (oneByte 31) (slot 5 (countUp 20 0) 0 7 11 1)))) refl
     ∷ []
 
 -- ---- registries

@@ -4,3 +4,4 @@ pub mod Slots
 pub mod Codec
 pub mod Scans
 pub mod Fits
+pub mod Longer

@@ -1,9 +1,10 @@
 -- Where everything lies in a store. No other file of specs/ or proofs/ names one of these numbers.
 --
--- "First the mark, 8 bytes, big-endian, at most 2^40; then 512 slots": "kind, handle 20, client number 1, farm 4, scope
--- set 1, expiry 8 (farm and expiry big-endian)"; then the link: a token's origin, or a code's challenge, "its 32 bytes in the
--- place where tokens hold their origin"; "every slot becomes 67 bytes, zero-filled .., the ledger 34,312".
+-- "First the mark, 8 bytes, big-endian, at most 2^40"; then the slots: "kind, handle 20, client number 1, farm 4, scope set 1,
+-- expiry 8 (farm and expiry big-endian)"; then the link: a token's origin, or a code's challenge, "its 32 bytes in the place
+-- where tokens hold their origin"; "every slot becomes 67 bytes, zero-filled".
 use Prim.Native.Nat.{ℕ, _+_, _*_, _^_}
+use mathlib.Core.Path.{_≡_, refl}
 use mathlib.Core.List.{List, [], _∷_}
 
 -- the bytes of the latest time seen, which stands first
@@ -14,8 +15,9 @@ timeSize = 8
 abbrev pub latestTime : ℕ
 latestTime = 2 ^ 40
 
+-- "In August 512 slots ran out and apps got 503. Raise it to 900"
 abbrev pub slotCount : ℕ
-slotCount = 512
+slotCount = 900
 
 -- the widths of a slot's fields that are wider than a byte
 abbrev pub handleSize : ℕ
@@ -58,6 +60,10 @@ slotSize = atLink + linkSize
 
 abbrev pub storeSize : ℕ
 storeSize = timeSize + slotCount * slotSize
+
+-- "the ledger to 60,308 bytes"
+store-size : storeSize ≡ 60308
+store-size = refl
 
 -- where slot i starts in the store
 abbrev pub slotStart : ℕ → ℕ

@@ -1,11 +1,11 @@
 // The sizes, places and kinds of the store, and the lifetimes: what specs/Layout.antt and specs/Store.antt say, once more.
 pub const TIME_SIZE: usize = 8;
 
-pub const SLOT_COUNT: usize = 512;
+pub const SLOT_COUNT: usize = 900;
 
 pub const SLOT_SIZE: usize = 67;
 
-pub const STORE_SIZE: usize = 34312;
+pub const STORE_SIZE: usize = TIME_SIZE + SLOT_COUNT * SLOT_SIZE;
 
 // Where each field starts in a slot, behind the kind, and the widths of those that are wider than a byte.
 pub const AT_HANDLE: usize = 1;

@@ -12,12 +12,18 @@ use poplarchime_host::sample::{self, Client, Slot};
 
 const NOW: u64 = 1_000_000;
 const ROUNDS: usize = 101;
+const STEP_ROUNDS: usize = 1_001;
 /// Calls in a row; their time is taken together.
 const BATCH: usize = 40;
 
 /// Where the code and the refresh token stand, and the slots behind it, which have run out and are taken.
 const PRESENTED: usize = sample::SLOTS - 3;
 const BEHIND: [usize; 2] = [sample::SLOTS - 2, sample::SLOTS - 1];
+
+/// How many slots are in use where growth is shown: from none to all, in equal steps.
+const STEP: usize = sample::SLOTS / 4;
+const FILLS: [usize; 5] = [0, STEP, 2 * STEP, 3 * STEP, sample::SLOTS];
+const NOWHERE: &str = "check, token nowhere";
 
 /// The longest verifier that there is, and the names of the rows in which it or its challenge plays a part.
 const VERIFIER: [u8; 128] = [b'v'; 128];
@@ -88,7 +94,7 @@ const RANDOM: [u8; 40] = {
 };
 
 /// Median nanoseconds of the exports and of the plain program, for every case.
-fn measure(cases: &[Case]) -> Vec<(f64, f64)> {
+fn measure(cases: &[Case], rounds: usize) -> Vec<(f64, f64)> {
     let mut turns: Vec<(usize, &Program)> = Vec::new();
     for number in 0..cases.len() {
         turns.extend([(number, &EXPORTS), (number, &PLAIN)]);
@@ -99,7 +105,7 @@ fn measure(cases: &[Case]) -> Vec<(f64, f64)> {
         let answered = cases[turn.0].call(turn.1, &mut store.clone(), &mut output);
         assert!(answered, "'{}' is not answered as it should be", cases[turn.0].name);
     }
-    let times = medians(ROUNDS, turns.len(), |turn| {
+    let times = medians(rounds, turns.len(), |turn| {
         let (number, program) = turns[turn];
         cases[number].time(program, &mut stores[turn], &mut output)
     });
@@ -156,6 +162,10 @@ fn slot(kind: u8, number: usize, client: usize) -> Slot {
 fn check_case(name: &'static str, clients: &[Client], live: usize, token: usize) -> Case {
     let request = Request::Check(sample::hex(&handle(token)));
     Case { name, request, registry: sample::registry(clients), store: store(live, clients.len()) }
+}
+
+fn nowhere_case(clients: &[Client], live: usize) -> Case {
+    check_case(NOWHERE, clients, live, sample::SLOTS)
 }
 
 /// A store in which the last slot but two is presented and the last two have run out. Behind a spent code they are live
@@ -215,11 +225,12 @@ fn main() {
     }
     println!("Time for one call in microseconds: ours (the exports), plain (the second program), and ours / plain.");
     println!();
-    println!("512 slots in use, 64 confidential clients:");
+    println!("{} slots in use, 64 confidential clients:", sample::SLOTS);
     full_store("short fields", &clients(64, false));
     full_store("fields as long as may be", &clients(64, true));
-    growth("check, token nowhere", |clients, live| check_case("check, token nowhere", clients, live, sample::SLOTS));
+    growth(NOWHERE, nowhere_case);
     growth("exchange", |clients, live| token_case("exchange", clients, live));
+    steps();
     println!();
     println!("Measured in one process and thread: {ROUNDS} rounds, in each of which every line of a table runs {BATCH} calls of");
     println!(
@@ -238,7 +249,7 @@ fn full_store(title: &str, clients: &[Client]) {
     let live = sample::SLOTS;
     let cases = [
         check_case("check, token in the last slot", clients, live, live - 1),
-        check_case("check, token nowhere", clients, live, live),
+        nowhere_case(clients, live),
         authorize_case("authorize", clients, live),
         authorize_case(WITH_CHALLENGE, clients, live),
         token_case("exchange", clients, live),
@@ -249,7 +260,7 @@ fn full_store(title: &str, clients: &[Client]) {
     ];
     println!();
     println!("{title:<32}{:>8}{:>8}{:>8}", "ours", "plain", "ratio");
-    for (case, (ours, plain)) in cases.iter().zip(measure(&cases)) {
+    for (case, (ours, plain)) in cases.iter().zip(measure(&cases, ROUNDS)) {
         println!("{:<32}{:>8.2}{:>8.2}{:>8.2}", case.name, ours / 1e3, plain / 1e3, ours / plain);
     }
 }
@@ -266,16 +277,52 @@ fn growth(name: &str, case: impl Fn(&[Client], usize) -> Case) {
             .map(|clients| format!("{:>17}", format!("{clients} client{}", if clients == 1 { "" } else { "s" })))
             .concat()
     );
-    let live = [0, 128, 256, 512];
     let mut cases = Vec::new();
-    for live in live {
+    for live in FILLS {
         cases.extend(CLIENTS.map(|count| case(&clients(count, false), live)));
     }
-    for (live, times) in live.iter().zip(measure(&cases).chunks(CLIENTS.len())) {
+    for (live, times) in FILLS.iter().zip(measure(&cases, ROUNDS).chunks(CLIENTS.len())) {
         let cells: String = times
             .iter()
             .map(|(ours, plain)| format!("{:>17}", format!("{:.2} ({:.2})", ours / 1e3, plain / 1e3)))
             .collect();
         println!("{live:>13}{cells}");
     }
+}
+
+/// What a further slot in use adds to a check, step by step, with the fewest and the most clients.
+fn steps() {
+    const CLIENTS: [usize; 2] = [1, 64];
+    println!();
+    println!("{NOWHERE}, short fields: microseconds for a call, and nanoseconds that each further slot in use adds:");
+    println!("{:>13}{:>34}{:>34}", "", "1 client", "64 clients");
+    let heads = ["ours", "a slot", "plain", "a slot"].map(|head| format!("{head:>8}")).concat();
+    println!("{:>13}  {heads}  {heads}", "slots in use");
+    let mut cases = Vec::new();
+    for live in FILLS {
+        cases.extend(CLIENTS.map(|count| nowhere_case(&clients(count, false), live)));
+    }
+    let times = measure(&cases, STEP_ROUNDS);
+    let rows: Vec<&[(f64, f64)]> = times.chunks(CLIENTS.len()).collect();
+    for (row, live) in FILLS.iter().enumerate() {
+        let earlier = row.saturating_sub(1);
+        let added = |time: f64, before: f64| match row {
+            0 => String::new(),
+            _ => format!("{:.2}", (time - before) / (live - FILLS[earlier]) as f64),
+        };
+        let cells = rows[row].iter().zip(rows[earlier]).map(|(now, before)| {
+            let (ours, plain) = (added(now.0, before.0), added(now.1, before.1));
+            format!("  {:>8.2}{ours:>8}{:>8.2}{plain:>8}", now.0 / 1e3, now.1 / 1e3)
+        });
+        println!("{}", format!("{live:>13}{}", cells.collect::<String>()).trim_end());
+    }
+    println!("Steps of {STEP} slots; this table alone is of {STEP_ROUNDS} rounds, since differences are small.");
+    println!(
+        "A check tests all {} slots for fitness whatever is in them: that is in every line, the first one too. What",
+        sample::SLOTS
+    );
+    println!(
+        "a slot adds is how much longer one in use takes than a free one; below 0, it takes less. How the time grows"
+    );
+    println!("with the number of slots itself cannot be had from outside: a store of another size is refused.");
 }

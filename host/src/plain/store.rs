@@ -1,11 +1,11 @@
-//! The token store: the high-water mark of the clock, then 512 slots, worked on in place.
+//! The token store: the high-water mark of the clock, then the slots, worked on in place.
 
 use super::handle::{Handle, HANDLE_SIZE};
 use super::scope::ScopeSet;
 use super::sha256::{Digest, DIGEST_SIZE};
 use super::CLOCK_LIMIT;
 
-pub const SLOTS: usize = 512;
+pub const SLOTS: usize = 900;
 pub const TIME_SIZE: usize = 8;
 pub const SLOT_SIZE: usize = CHALLENGE + DIGEST_SIZE;
 pub const STORE_SIZE: usize = TIME_SIZE + SLOTS * SLOT_SIZE;

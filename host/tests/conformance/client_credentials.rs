@@ -12,6 +12,7 @@ const BODY: &str = "grant_type=client_credentials";
 const BY_BODY: &str = "grant_type=client_credentials&client_id=grainpool&client_secret=wheat4barley";
 const BY_BARNAPP: &str = "grant_type=client_credentials&client_id=barnapp";
 const POOL: u8 = 2;
+const LAST: usize = sample::SLOTS - 1;
 /// What the pool is registered for: pump and solar.
 const POOL_SCOPE: u8 = 64 + 128;
 /// Of the random bytes from 20 on.
@@ -173,14 +174,14 @@ fn room_for_one_is_enough() {
     assert_eq!(host.token(BASIC, BODY, 1000, 0x60).status, 503, "full now");
     for (expiry, status) in [(1000, 200), (1001, 503)] {
         let mut host = filled_from(0);
-        host.set_slot(511, Slot { expiry, ..other_slot() });
+        host.set_slot(LAST, Slot { expiry, ..other_slot() });
         assert_eq!(host.token(BASIC, BODY, 1000, 0x20).status, status, "a slot that runs out at {expiry}");
     }
 }
 
 #[test]
 fn the_lowest_vacant_slot_is_taken() {
-    for (run_out, free, taken) in [(7, 300, 7), (300, 7, 7), (511, 510, 510), (0, 1, 0)] {
+    for (run_out, free, taken) in [(7, 300, 7), (300, 7, 7), (LAST, LAST - 1, LAST - 1), (0, 1, 0)] {
         let mut host = filled_from(0);
         host.set_slot(run_out, Slot { expiry: 1000, ..other_slot() });
         host.set_slot(free, Slot::default());
@@ -195,7 +196,7 @@ fn the_lowest_vacant_slot_is_taken() {
 fn the_first_twenty_random_bytes_may_not_be_in_use() {
     for kind in sample::KINDS {
         // Live, run out long ago, and the slot that would be taken.
-        for (number, expiry) in [(511, 9000), (200, 1), (0, 1000)] {
+        for (number, expiry) in [(LAST, 9000), (200, 1), (0, 1000)] {
             let mut host = host();
             host.set_slot(number, Slot { handle: counting(0x20), expiry, ..other_slot().turned(kind) });
             assert_eq!(host.token(BASIC, BODY, 1000, 0x20).status, 500, "kind {kind} in slot {number}");

@@ -4,6 +4,7 @@ use std::collections::BTreeMap;
 
 use poplarchime_host::answers::{Authorization, CheckAnswer, ErrorWord, TokenReply};
 use poplarchime_host::plain::{handle, registry, scope, store, CLOCK_LIMIT, FORM_LIMIT, LEAST_OUTPUT};
+use poplarchime_host::sample;
 
 const HEADER: &str = include_str!("../../../include/poplarchime.h");
 
@@ -53,6 +54,8 @@ fn sizes() {
     for (name, value) in expected {
         assert_eq!(numbers.get(&format!("POPLARCHIME_{name}")[..]), Some(&(value as u64)), "{name}");
     }
+    // The tests' own number of slots.
+    assert_eq!((sample::STORE_SIZE, sample::SLOTS), (store::STORE_SIZE, store::SLOTS));
     assert_eq!(CLOCK_LIMIT, 1 << 40);
     assert!(HEADER.contains("#define POPLARCHIME_CLOCK_LIMIT (UINT64_C(1) << 40)"));
     let words = 1 + ErrorWord::ALL.len();

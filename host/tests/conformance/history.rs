@@ -23,7 +23,7 @@ use crate::support::rng::Rng;
 use crate::support::tally::Tally;
 use crate::support::world::{random_clients, Start, World};
 
-const ROOM: usize = 512;
+const ROOM: usize = 900;
 /// The farm of a token that a client has for itself.
 const NO_FARM: u32 = 0;
 
@@ -364,7 +364,8 @@ fn behind(text: &str, before: &str, end: &str) -> Option<String> {
 // ---- long sequences
 
 const SEQUENCES: u64 = 16;
-const CALLS: usize = 5_400;
+/// Enough for a history in which time passes slowly to fill the store, and to go on with it full.
+const CALLS: usize = 11 * ROOM;
 /// Where time begins: at zero, about now, and a little before the highest clock.
 const FIRST_CLOCKS: [u64; 3] = [0, 1_800_000_000, (1 << 40) - 4_000_000];
 

@@ -222,7 +222,7 @@ fn unused_bytes_of_a_record() {
 
 #[test]
 fn bytes_of_a_free_slot() {
-    for slot in [3, 100, 511] {
+    for slot in [3, 100, sample::FORMER_SLOTS, sample::SLOTS - 1] {
         for offset in 1..sample::SLOT_SIZE {
             let mut draft = draft(Action::Check);
             draft.store[sample::slot_range(slot).start + offset] = 1;
@@ -242,7 +242,7 @@ fn kinds_and_clients_of_a_slot() {
         }
         for (slot, fit) in slots {
             let mut draft = draft(Action::Check);
-            draft.set_slot(511, slot);
+            draft.set_slot(sample::SLOTS - 1, slot);
             expect(&draft, if fit { "live" } else { "refusal 3" });
         }
     }
@@ -272,7 +272,7 @@ fn last_bytes_of_a_slot() {
 #[test]
 fn stores_of_earlier_layouts() {
     for action in Action::ALL {
-        for length in [17_927, 17_928, 17_929, 28_167, 28_168, 28_169] {
+        for length in sample::FORMER_SIZES.into_iter().flat_map(|size| size - 1..=size + 1) {
             let mut draft = draft(action);
             draft.store.truncate(length);
             expect(&draft, "refusal 3");

@@ -5,6 +5,7 @@ mod support;
 mod basic_credentials;
 mod client_credentials;
 mod digest;
+mod harvest_crowd;
 mod header;
 mod history;
 mod lengths;

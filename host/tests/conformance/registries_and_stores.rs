@@ -11,6 +11,7 @@ use crate::support::host::{
 use crate::support::pkce;
 
 const LIMIT: u64 = 1 << 40;
+const LAST: usize = sample::SLOTS - 1;
 
 fn basic(client: &Client) -> Vec<u8> {
     client.secret.as_ref().map_or(Vec::new(), |secret| sample::basic_header(&client.id, secret))
@@ -72,7 +73,7 @@ fn sixty_five_clients_are_too_many() {
 #[test]
 fn a_registry_of_one_client_has_no_client_1() {
     let mut host = Host::visit();
-    host.set_slot(511, Slot { kind: sample::ACCESS, client: 1, scope: 1, ..Slot::default() });
+    host.set_slot(LAST, Slot { kind: sample::ACCESS, client: 1, scope: 1, ..Slot::default() });
     assert_eq!(host.check("", 1000).refusal, 0);
     host.registry.truncate(301);
     assert_eq!(host.check("", 1000).refusal, 3);
@@ -218,9 +219,13 @@ fn the_last_second_of_time() {
 #[test]
 fn an_exchange_takes_the_two_lowest_vacant_slots() {
     // The code's slot, one that has run out, a free one, and where access and refresh token land.
-    for (code, run_out, free, access, refresh) in
-        [(5, 7, 8, 7, 8), (7, 8, 5, 5, 8), (8, 5, 7, 5, 7), (0, 2, 1, 1, 2), (511, 509, 510, 509, 510)]
-    {
+    for (code, run_out, free, access, refresh) in [
+        (5, 7, 8, 7, 8),
+        (7, 8, 5, 5, 8),
+        (8, 5, 7, 5, 7),
+        (0, 2, 1, 1, 2),
+        (LAST, LAST - 2, LAST - 1, LAST - 2, LAST - 1),
+    ] {
         let mut host = Host::visit();
         let live = Slot { client: 1, ..Slot::of(sample::REFRESH, [1; 20], 5000) };
         host.set_slots(0..sample::SLOTS, live);

@@ -385,11 +385,11 @@ fn spent_codes_take_room_until_they_run_out() {
 #[test]
 fn a_spent_codes_slot_is_taken_again_once_it_has_run_out() {
     let mut host = filled_from(0, Slot::of(sample::REFRESH, [1; 20], 5000));
-    host.set_slot(300, spent());
+    host.set_slot(sample::SLOTS - 1, spent());
     assert_eq!(host.authorize(BARNAPP, 1, EXPIRY - 1, 0x00), sent_back("temporarily_unavailable"));
     host.authorize(BARNAPP, 1, EXPIRY, 0x00);
     let code = Slot { client: 1, farm: 7, ..Slot::of(sample::CODE, counting(0), EXPIRY + 600) };
-    assert_eq!(host.slot(300), code.challenged(pkce::appendix_b().challenge));
+    assert_eq!(host.slot(sample::SLOTS - 1), code.challenged(pkce::appendix_b().challenge));
     assert_eq!(host.authorize(BARNAPP, 1, EXPIRY, 0x20), sent_back("temporarily_unavailable"), "full again");
 }
 

@@ -1,4 +1,4 @@
-//! What a store may hold: codes with a challenge are kinds 6 and 7, and the layouts of before are refused.
+//! What a store may hold: codes with a challenge are kinds 6 and 7, and the layout without them is refused.
 
 use poplarchime_host::sample::{self, Slot};
 
@@ -12,28 +12,18 @@ fn refusal(host: &Host) -> u32 {
 }
 
 #[test]
-fn a_store_has_34_312_bytes() {
-    assert_eq!((sample::STORE_SIZE, sample::SLOT_SIZE), (34_312, 67));
-    let mut host = Host::visit();
-    for length in [0, 8, 17_928, 28_168, 34_311, 34_312, 34_313, 34_312 + 67] {
-        host.store = vec![0; length];
-        assert_eq!(refusal(&host), if length == 34_312 { 0 } else { 3 }, "{length} bytes");
-    }
-}
-
-#[test]
-fn a_store_of_the_layout_before_is_refused() {
+fn a_store_of_slots_of_55_bytes_is_refused() {
     // A time, then a live access token of client 0 in slots of 55 bytes.
     let slot = [&[3][..], &[9; 20], &[0], &[0, 0, 0, 7], &[1], &[0, 0, 0, 0, 0, 0, 0x20, 0], &[9; 20]].concat();
     assert_eq!(slot.len(), 55);
     let mut host = Host::visit();
-    host.store = vec![0; 28_168];
+    host.store = vec![0; sample::FORMER_SIZES[1]];
     host.store[8..8 + 55].copy_from_slice(&slot);
     assert_eq!(refusal(&host), 3);
     let before = host.store.clone();
     assert_eq!(host.check(sample::hex(&[9; 20]), NOW).refusal, 3);
     assert_eq!(host.store, before);
-    host.store.resize(34_312, 0);
+    host.store.resize(sample::STORE_SIZE, 0);
     assert_eq!(host.check(sample::hex(&[9; 20]), NOW).seconds_left, 0x2000 - NOW, "twelve zeros happen to follow");
 }
 

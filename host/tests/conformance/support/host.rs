@@ -85,8 +85,19 @@ impl Host {
         clock: u64,
         random: u8,
     ) -> Authorized {
+        self.authorize_with(farm, query, decision, clock, counting(random))
+    }
+
+    pub fn authorize_with(
+        &mut self,
+        farm: u32,
+        query: impl AsRef<[u8]>,
+        decision: u64,
+        clock: u64,
+        random: [u8; 20],
+    ) -> Authorized {
         let request = Request::Authorize { query: query.as_ref().to_vec(), decision, farm };
-        let after = self.run(request, clock, &counting(random));
+        let after = self.run(request, clock, &random);
         let Answer::Authorize(answer) = after.answer else { unreachable!() };
         match answer.refusal {
             0 => Authorized::Redirected(after.text()),
