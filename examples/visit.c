@@ -1,7 +1,8 @@
 /*
  * A host in C that plays the papers' visit from end to end: two apps ask for a farm's readings. Then a phone app
- * without a secret shows that a code is its own, a thief and an app show the same code, a server asks for its own
- * readings, an app has a secret that must be coded before it is sent, and at harvest a crowd fills the store.
+ * without a secret shows that a code is its own, a thief and an app show the same code, a farmer shows an app the door,
+ * a server asks for its own readings, an app has a secret that must be coded before it is sent, and at harvest a crowd
+ * fills the store.
  *
  * It shows each request and answer, and holds each answer to what the papers say. The last line is
  * 'N passed, M failed', and the exit status is 0 only if M is 0. `examples/run` builds and runs it.
@@ -54,7 +55,7 @@ static int same(const uint8_t *bytes, size_t length, const char *text)
     return length == strlen(text) && memcmp(bytes, text, length) == 0;
 }
 
-/* ---- The three endpoints, as a host calls them ---- */
+/* ---- The four endpoints, as a host calls them ---- */
 
 static struct poplarchime_authorization call_authorize(struct host *host, const char *query, uint64_t decision,
                                                        uint32_t farm, uint64_t clock, uint8_t random_from)
@@ -122,20 +123,18 @@ static uint32_t error_in(const char *body)
     return POPLARCHIME_NO_ERROR;
 }
 
-/* The answer must have this status, challenge and body, and the number of the error word in it. */
-static void replies(struct host *host, const char *header, const char *body, uint64_t clock, uint8_t random_from,
-                    uint32_t status, uint32_t challenge, const char *expected)
+static void show_post(const char *path, const char *header, const char *body, uint64_t clock)
 {
-    uint8_t random[POPLARCHIME_TOKEN_RANDOM];
-    count_up(random, sizeof random, random_from);
-    printf("   clock %" PRIu64 "\n   > POST /token\n", clock);
+    printf("   clock %" PRIu64 "\n   > POST %s\n", clock, path);
     if (header[0])
         printf("   >   Authorization: %s\n", header);
     printf("   >   %s\n", body);
-    struct poplarchime_token_reply reply =
-        poplarchime_token((const uint8_t *)header, strlen(header), (const uint8_t *)body, strlen(body),
-                          host->registry, host->registry_length, host->store, sizeof host->store,
-                          clock, random, sizeof random, host->output, sizeof host->output);
+}
+
+/* The answer must have this status, challenge and body, and the number of the error word in it. */
+static void judge_reply(struct host *host, struct poplarchime_token_reply reply, uint32_t status, uint32_t challenge,
+                        const char *expected)
+{
     if (reply.refusal != POPLARCHIME_NOT_REFUSED)
         printf("   < refusal %" PRIu32 "\n", reply.refusal);
     printf("   < %" PRIu32 "%s\n", reply.status, reply.challenge ? ", WWW-Authenticate: Basic" : "");
@@ -143,6 +142,31 @@ static void replies(struct host *host, const char *header, const char *body, uin
         printf("   <   %.*s\n", (int)reply.length, (const char *)host->output);
     judge(reply.refusal == POPLARCHIME_NOT_REFUSED && reply.status == status && reply.challenge == challenge
               && reply.error == error_in(expected) && same(host->output, reply.length, expected), expected);
+}
+
+static void replies(struct host *host, const char *header, const char *body, uint64_t clock, uint8_t random_from,
+                    uint32_t status, uint32_t challenge, const char *expected)
+{
+    uint8_t random[POPLARCHIME_TOKEN_RANDOM];
+    count_up(random, sizeof random, random_from);
+    show_post("/token", header, body, clock);
+    judge_reply(host,
+                poplarchime_token((const uint8_t *)header, strlen(header), (const uint8_t *)body, strlen(body),
+                                  host->registry, host->registry_length, host->store, sizeof host->store,
+                                  clock, random, sizeof random, host->output, sizeof host->output),
+                status, challenge, expected);
+}
+
+/* A revocation; the body of a 200 is empty. */
+static void revocation_replies(struct host *host, const char *header, const char *body, uint64_t clock,
+                               uint32_t status, uint32_t challenge, const char *expected)
+{
+    show_post("/revoke", header, body, clock);
+    judge_reply(host,
+                poplarchime_revoke((const uint8_t *)header, strlen(header), (const uint8_t *)body, strlen(body),
+                                   host->registry, host->registry_length, host->store, sizeof host->store,
+                                   clock, host->output, sizeof host->output),
+                status, challenge, expected);
 }
 
 static struct poplarchime_check_answer call_check(struct host *host, const char *token, uint64_t clock)
@@ -329,6 +353,71 @@ static void code_shown_twice(struct host *host)
     is_live(&copy, ACCESS, 1600, 1, 1, 3001);
 }
 
+/* An autumn night: the office clock shows two o'clock, and an hour later it shows two o'clock again. */
+#define TWO_OCLOCK 10000
+#define AN_HOUR 3600
+#define REVOKE_REFRESH "token=" REFRESH "&token_type_hint=refresh_token"
+
+/* Two apps read the farm; the first one has refreshed, so that it has two access tokens. */
+static void two_apps_read(struct host *host, uint64_t clock)
+{
+    title("The farmer allows two apps. The first one has refreshed already, and has two access tokens");
+    redirects(host, QUERY, POPLARCHIME_ALLOW, clock, 0x00, POPLARCHIME_NO_ERROR,
+              "https://client.example.com/cb?code=" CODE "&state=xyz");
+    replies(host, BASIC, EXCHANGE, clock, 0x20, 200, 0, TOKENS_FOR("power peak bill"));
+    replies(host, BASIC, "grant_type=refresh_token&refresh_token=" REFRESH, clock, 0x50, 200, 0,
+            ONE_TOKEN(LATER_ACCESS, "power peak bill"));
+    redirects(host, BARN_QUERY, POPLARCHIME_ALLOW, clock, 0x60, POPLARCHIME_NO_ERROR,
+              "https://barn.example/r?x=1&code=" NEXT_CODE);
+    replies(host, "", BARN_EXCHANGE_OF(NEXT_CODE), clock, 0x80, 200, 0, TOKENS(NEXT_ACCESS, NEXT_REFRESH, "power"));
+    is_live(host, ACCESS, clock, 0, 11, 3600);
+    is_live(host, LATER_ACCESS, clock, 0, 11, 3600);
+    is_live(host, NEXT_ACCESS, clock, 1, 1, 3600);
+}
+
+/* Neither of the first app's access tokens reads anything, and its refresh token brings no other. */
+static void first_app_is_out(struct host *host, uint64_t clock)
+{
+    is_not_live(host, ACCESS, clock);
+    is_not_live(host, LATER_ACCESS, clock);
+    replies(host, BASIC, "grant_type=refresh_token&refresh_token=" REFRESH, clock, 0xb0, 400, 0, INVALID_GRANT);
+}
+
+static void farmer_changes_his_mind(struct host *host)
+{
+    start(host);
+    two_apps_read(host, TWO_OCLOCK);
+    title("A stranger cannot revoke what is not his: it is refused, and the app reads on");
+    revocation_replies(host, "", REVOKE_REFRESH "&client_id=barnapp", TWO_OCLOCK + 10, 400, 0, INVALID_GRANT);
+    is_live(host, ACCESS, TWO_OCLOCK + 10, 0, 11, 3590);
+    title("Nor can one who claims to be the app and has not its secret");
+    revocation_replies(host, "Basic nonsense", REVOKE_REFRESH, TWO_OCLOCK + 10, 401, 1, INVALID_CLIENT);
+    revocation_replies(host, "", REVOKE_REFRESH "&client_id=s6BhdRkqt3", TWO_OCLOCK + 10, 401, 0, INVALID_CLIENT);
+    title("The farmer shows the first app the door. The portal tells its firm, and the firm revokes its refresh token ...");
+    revocation_replies(host, BASIC, REVOKE_REFRESH, TWO_OCLOCK + 20, 200, 0, "");
+    title("... and its next reading is refused, also with the access token that it got by a refresh");
+    first_app_is_out(host, TWO_OCLOCK + 20);
+    title("The hour is nearly over when the clock is set back. In the second two o'clock the app is out as in the first");
+    is_not_live(host, ACCESS, TWO_OCLOCK + AN_HOUR - 30);
+    first_app_is_out(host, TWO_OCLOCK);
+    first_app_is_out(host, TWO_OCLOCK + 30);
+    title("The other app of the same farm still reads");
+    is_live(host, NEXT_ACCESS, TWO_OCLOCK + 30, 1, 1, 30);
+    title("To revoke a token once more does no harm, and so it is with one that nobody knows: 200, and nothing changes");
+    struct host before = *host;
+    revocation_replies(host, BASIC, REVOKE_REFRESH, TWO_OCLOCK + 30, 200, 0, "");
+    revocation_replies(host, BASIC, "token=45ghiukldjahdnhzdauz&token_type_hint=refresh_token", TWO_OCLOCK + 30, 200, 0,
+                       "");
+    printf("   and the store is as it was\n");
+    judge(memcmp(host->store, before.store, sizeof host->store) == 0, "an untouched store");
+    title("A public app names itself alone. It gives up an access token, and keeps the refresh token");
+    revocation_replies(host, "", "token=" NEXT_ACCESS "&client_id=barnapp", TWO_OCLOCK + 30, 200, 0, "");
+    is_not_live(host, NEXT_ACCESS, TWO_OCLOCK + 30);
+    replies(host, "", "grant_type=refresh_token&refresh_token=" NEXT_REFRESH "&client_id=barnapp", TWO_OCLOCK + 30,
+            0x20, 200, 0, ONE_TOKEN(ACCESS, "power"));
+    is_live(host, ACCESS, TWO_OCLOCK + 30, 1, 1, 3600);
+}
+
 /* Base64 of `grainpool:wheat4barley`. */
 #define POOL_BASIC "Basic Z3JhaW5wb29sOndoZWF0NGJhcmxleQ=="
 
@@ -497,6 +586,10 @@ static void bad_hosts(struct host *host)
                                   host->store, sizeof host->store, 1000, random, sizeof random, host->output,
                                   sizeof host->output - 1).refusal,
             POPLARCHIME_REFUSED_BUFFERS);
+    refuses("a revocation with an output of 1,023 bytes",
+            poplarchime_revoke(NULL, 0, NULL, 0, host->registry, host->registry_length, host->store,
+                               sizeof host->store, 1000, host->output, sizeof host->output - 1).refusal,
+            POPLARCHIME_REFUSED_BUFFERS);
     refuses("no registry", poplarchime_check(NULL, 0, NULL, 0, host->store, sizeof host->store, 1000).refusal,
             POPLARCHIME_REFUSED_REGISTRY);
     refuses_store(host, "half a store", sizeof host->store / 2);
@@ -520,6 +613,7 @@ int main(void)
     public_client(&host);
     phone_app_without_a_secret(&host);
     code_shown_twice(&host);
+    farmer_changes_his_mind(&host);
     client_for_itself(&host);
     secret_with_a_percent_sign(&host);
     harvest_crowd(&host);

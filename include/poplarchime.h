@@ -1,21 +1,23 @@
 /*
- * Poplarchime: the core of an OAuth 2.0 authorization server (RFC 6749, and PKCE, RFC 7636), proved in Rattle and
- * exported to C.
+ * Poplarchime: the core of an OAuth 2.0 authorization server (RFC 6749, with PKCE, RFC 7636, and token revocation,
+ * RFC 7009), proved in Rattle and exported to C.
  *
- * Three functions: the authorization endpoint, the token endpoint, and the check of an access token. They keep no
- * state of their own, allocate nothing, do no input or output and always return. All they know is in the buffers that
- * they are handed: the client registry (read), the token store (read and written), the clock, and random bytes.
- * They test all of it themselves; nothing about the contents of a buffer is taken on trust.
+ * Four functions: the authorization endpoint, the token endpoint, the revocation endpoint, and the check of an access
+ * token. They keep no state of their own, allocate nothing, do no input or output and always return. All they know is
+ * in what they are handed: the request, the client registry (read), the token store (read and written), the clock, and
+ * random bytes where something is issued. They test all of it themselves; nothing about the contents of a buffer is
+ * taken on trust.
  *
  * What the host must do (docs/HOST.md says more):
  *
  *   - One call at a time for each token store. The functions do no locking.
  *   - Keep the store, byte for byte, before any reply leaves the machine, a refusal too: it may have withdrawn tokens.
- *     Hand each call the store as the last call left it. A store from a backup brings spent codes and withdrawn tokens
- *     back to life.
+ *     Hand each call the store as the last call left it. A store from a backup brings spent codes and tokens that were
+ *     withdrawn or revoked back to life.
  *   - The clock is a count of seconds that does not depend on the time zone, as time(NULL). It may stand still or go
  *     back: the store remembers the highest clock seen, and that one counts.
- *   - Fresh random bytes for every call, from a generator fit for secrets, as getrandom(2). They become codes and tokens.
+ *   - Fresh random bytes for every call that takes some, from a generator fit for secrets, as getrandom(2). They become
+ *     codes and tokens.
  *   - Lengths are true. `store` and `output` overlap no other buffer, and nobody else writes to any buffer during the
  *     call. A buffer of length 0 may be NULL.
  *   - HTTP, TLS, the owner's login and the question whether he allows the request.
@@ -30,7 +32,7 @@
  * The version of this interface and of the archive that goes with it. Where the second number moves, a host may have to
  * change: docs/changes/ says what moved.
  */
-#define POPLARCHIME_VERSION "0.6.0"
+#define POPLARCHIME_VERSION "0.7.0"
 
 #ifdef __cplusplus
 extern "C" {
@@ -72,7 +74,7 @@ extern "C" {
 /* The output must have room for so many; every answer fits. More is fine. */
 #define POPLARCHIME_LEAST_OUTPUT 1024
 
-/* Random bytes: exactly so many, at the authorization endpoint and at the token endpoint. */
+/* Random bytes: exactly so many, at the authorization endpoint and at the token endpoint. The others take none. */
 #define POPLARCHIME_AUTHORIZE_RANDOM 20
 #define POPLARCHIME_TOKEN_RANDOM 40
 
@@ -157,16 +159,19 @@ struct poplarchime_authorization {
 };
 
 /*
+ * The answer of the token endpoint and of the revocation endpoint.
+ *
  * refusal 1 to 4:   answer 500, log it; nothing changed. status is 0.
- * status 200:       tokens; the body is the first `length` bytes of the output.
+ * status 200:       token endpoint: tokens; the body is the first `length` bytes of the output.
+ *                   Revocation endpoint: empty body, length 0. The token was revoked, or it was not live.
  * status 400, 401:  {"error":"WORD"}; the body is the first `length` bytes of the output.
- * status 500, 503:  empty body. 503: no room in the store. 500: the random bytes were already in use.
+ * status 500, 503:  token endpoint only; empty body. 503: no room in the store. 500: the random bytes were in use.
  * With every body: `Content-Type: application/json;charset=UTF-8`, `Cache-Control: no-store`, `Pragma: no-cache`.
  * challenge 1:      add `WWW-Authenticate: Basic realm="..."`; the client tried the Authorization header.
  */
 struct poplarchime_token_reply {
     uint32_t refusal;   /* enum poplarchime_refusal, 0 to 4 */
-    uint32_t status;    /* the HTTP status: 200, 400, 401, 500 or 503 */
+    uint32_t status;    /* the HTTP status: 200, 400 or 401; at the token endpoint also 500 or 503; 0 for a refusal */
     uint32_t error;     /* enum poplarchime_error, for 400 and 401 */
     uint32_t challenge; /* 1 for a 401 to a request that had an Authorization header */
     size_t length;      /* bytes of the body in the output */
@@ -174,7 +179,7 @@ struct poplarchime_token_reply {
 
 /*
  * refusal 2 to 4: answer 500, log it; nothing changed.
- * live 0:         unknown, run out or withdrawn. The resource server answers 401,
+ * live 0:         unknown, run out, withdrawn or revoked. The resource server answers 401,
  *                 `WWW-Authenticate: Bearer error="invalid_token"`.
  * live 1:         whose token it is, for which farm and scope, and for how long. Test farm and scope before serving.
  */
@@ -226,6 +231,24 @@ struct poplarchime_token_reply poplarchime_token(
     uint8_t *store, size_t store_length,
     uint64_t clock,
     const uint8_t *random, size_t random_length,
+    uint8_t *output, size_t output_length);
+
+/*
+ * The revocation endpoint (RFC 7009), for POST requests: a client gives up a token of its own. `header` and `body` are
+ * as at the token endpoint, and the client authenticates in the same way; a public one shows its `client_id` alone. The
+ * form has the token as `token`. A `token_type_hint` may come, and its value is not looked at. `output` receives the
+ * body of an error; it must have its least size, although most answers write nothing.
+ *
+ * An access token goes alone. A refresh token goes together with every access token that came from the same code, by a
+ * refresh too. A token that is unknown or has run out is answered with 200 all the same (section 2.2). So is a code,
+ * which stays good: codes cannot be revoked. A live token of another client is `invalid_grant`, and stays good.
+ */
+struct poplarchime_token_reply poplarchime_revoke(
+    const uint8_t *header, size_t header_length,
+    const uint8_t *body, size_t body_length,
+    const uint8_t *registry, size_t registry_length,
+    uint8_t *store, size_t store_length,
+    uint64_t clock,
     uint8_t *output, size_t output_length);
 
 /*

@@ -1,4 +1,4 @@
-//! What the three endpoints answer, as it crosses the C interface (`include/poplarchime.h`).
+//! What the four endpoints answer, as it crosses the C interface (`include/poplarchime.h`).
 //!
 //! A number that a case leaves free is 0.
 
@@ -14,19 +14,19 @@ pub struct Authorization {
     pub length: usize,
 }
 
-/// The answer of the token endpoint.
+/// The answer of the token endpoint, and of the revocation endpoint.
 #[repr(C)]
 #[derive(Clone, Copy, Debug, Default, PartialEq, Eq)]
 pub struct TokenReply {
     /// 0, or 1 to 4: nothing was written or changed.
     pub refusal: u32,
-    /// The HTTP status: 200, 400, 401, 500 or 503.
+    /// The HTTP status: 200, 400 or 401; of the token endpoint also 500 or 503.
     pub status: u32,
     /// The number of the error word in the body of a 400 or 401.
     pub error: u32,
     /// 1 when a 401 answers a request that came with an Authorization header.
     pub challenge: u32,
-    /// Bytes of the body in the output.
+    /// Bytes of the body in the output; none at a status of 500 or 503, nor at the 200 of a revocation.
     pub length: usize,
 }
 

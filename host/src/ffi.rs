@@ -35,6 +35,20 @@ extern "C" {
         output_length: usize,
     ) -> TokenReply;
 
+    fn poplarchime_revoke(
+        header: *const u8,
+        header_length: usize,
+        body: *const u8,
+        body_length: usize,
+        registry: *const u8,
+        registry_length: usize,
+        store: *mut u8,
+        store_length: usize,
+        clock: u64,
+        output: *mut u8,
+        output_length: usize,
+    ) -> TokenReply;
+
     fn poplarchime_check(
         token: *const u8,
         token_length: usize,
@@ -102,6 +116,33 @@ pub fn token(
             clock,
             random.as_ptr(),
             random.len(),
+            output.as_mut_ptr(),
+            output.len(),
+        )
+    }
+}
+
+/// The revocation endpoint.
+pub fn revoke(
+    header: &[u8],
+    body: &[u8],
+    registry: &[u8],
+    store: &mut [u8],
+    clock: u64,
+    output: &mut [u8],
+) -> TokenReply {
+    // SAFETY: as for `authorize`.
+    unsafe {
+        poplarchime_revoke(
+            header.as_ptr(),
+            header.len(),
+            body.as_ptr(),
+            body.len(),
+            registry.as_ptr(),
+            registry.len(),
+            store.as_mut_ptr(),
+            store.len(),
+            clock,
             output.as_mut_ptr(),
             output.len(),
         )

@@ -7,10 +7,12 @@
 
 pub mod authorization;
 pub mod base64;
+pub mod client_form;
 pub mod form;
 pub mod handle;
 pub mod pkce;
 pub mod registry;
+pub mod revocation;
 pub mod scope;
 pub mod sha256;
 pub mod store;
@@ -18,6 +20,7 @@ pub mod token;
 pub mod token_check;
 
 pub use authorization::authorize;
+pub use revocation::revoke;
 pub use token::token;
 pub use token_check::check;
 

@@ -86,6 +86,7 @@ pub const CHALLENGED_CODE: u8 = 6;
 pub const BOUND_CHALLENGED_CODE: u8 = 7;
 /// The kinds of a slot in use.
 pub const KINDS: [u8; 7] = [CODE, BOUND_CODE, ACCESS, REFRESH, SPENT, CHALLENGED_CODE, BOUND_CHALLENGED_CODE];
+pub const TOKENS: [u8; 2] = [ACCESS, REFRESH];
 pub const CODES: [u8; 5] = [CODE, BOUND_CODE, SPENT, CHALLENGED_CODE, BOUND_CHALLENGED_CODE];
 /// The codes that can be exchanged.
 pub const UNSPENT: [u8; 4] = [CODE, BOUND_CODE, CHALLENGED_CODE, BOUND_CHALLENGED_CODE];
@@ -150,7 +151,7 @@ impl Slot {
     }
 
     pub fn is_token(&self) -> bool {
-        self.kind == ACCESS || self.kind == REFRESH
+        TOKENS.contains(&self.kind)
     }
 
     pub fn is_live(&self, now: u64) -> bool {

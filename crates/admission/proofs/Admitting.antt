@@ -9,7 +9,7 @@ use mathlib.Core.Bool.{Bool, true, false, not}
 use mathlib.Core.List.{List}
 use native.Mathlib.Omega.{arith}
 use borrow.Author.Tests.{not-false, ltb-false, eqb-true}
-use lib.Dec.{ltb, eqb, lit<}
+use lib.Dec.{eqb, lit<}
 use lib.ListN.{length}
 use Rattle.octets.specs.Lists.{Bytes}
 use Rattle.octets.proofs.Booleans.{or-none}
@@ -27,7 +27,7 @@ use Rattle.protocol.specs.declared.Refusal.the-variants.{Unfit}
 use Rattle.protocol.specs.declared.Input.the-variants.{Buffers}
 use Rattle.protocol.specs.Limits.{leastOutput}
 use Rattle.protocol.specs.Answers.{isGrant}
-use Rattle.protocol.specs.Outcomes.{unfitReasons, unfitBuffers, Handed, Endpoint, admit, outcomeBy, outcome}
+use Rattle.protocol.specs.Outcomes.{unfitReasons, unfitOutput, unfitBuffers, Handed, Endpoint, admit, outcomeBy, outcome}
 use Rattle.protocol.proofs.Reasons.{unrefused}
 use Rattle.admission.specs.declared.Admission.{Admission}
 use Rattle.admission.specs.declared.Admission.the-variants.{Refused, At}
@@ -76,7 +76,10 @@ module _ {unfit : Bool} {registry store : List ℕ} {clock : ℕ} (a : Admitted 
   time-early : callTime (decode store) clock ≤ latestTime
   time-early = omega (arith, fit-time (length (clientsOf registry)) store (a .store-fit), a .early)
 
--- the sizes of buffers that are fit
+-- the size of an output that is fit, and the sizes of buffers that are
+pub fit-output : (output : List ℕ) → unfitOutput output ≡ false → leastOutput ≤ length output
+fit-output output e = ltb-false (length output) leastOutput e
+
 pub record Sized (size : ℕ) (random output : List ℕ) : Type 0 where
   pub exact : length random ≡ size
   pub room : leastOutput ≤ length output
@@ -84,8 +87,8 @@ pub record Sized (size : ℕ) (random output : List ℕ) : Type 0 where
 pub fit-buffers : (size : ℕ) (random output : List ℕ) → unfitBuffers size random output ≡ false → Sized size random output
 fit-buffers size random output e =
     let sized = eqb (length random) size in
-    let neither = or-none (ltb (length output) leastOutput) (not sized) e in
-    record { exact = eqb-true (length random) size (not-false sized (neither .1)); room = ltb-false (length output) leastOutput (neither .0) }
+    let neither = or-none (unfitOutput output) (not sized) e in
+    record { exact = eqb-true (length random) size (not-false sized (neither .1)); room = fit-output output (neither .0) }
 
 -- ---- the way in, from what it answers
 

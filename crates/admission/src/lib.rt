@@ -5,7 +5,7 @@ use protocol::Input;
 use protocol::Refusal;
 use protocol::limits::LEAST_OUTPUT;
 ghost use mathlib.Core.Path.{_≡_};
-ghost use Rattle.protocol.specs.Outcomes.{unfitBuffers, admit};
+ghost use Rattle.protocol.specs.Outcomes.{unfitOutput, unfitBuffers, admit};
 ghost use Rattle.admission.specs.Entering.{Entered};
 
 // How a call comes in: not at all, or at its time.
@@ -14,11 +14,18 @@ pub enum Admission {
     At(u64),
 }
 
+// Whether a call brings too little output.
+pub fn unfit_output(output: &[u8]) -> bool
+    ensures { λ r. ⌜ r ≡ unfitOutput (now (output .entry)) ⌝ }
+{
+    output.len() < LEAST_OUTPUT
+}
+
 // Whether a call brings too little output, or other than so many random bytes.
 pub fn unfit_buffers(size: usize, random: &[u8], output: &[u8]) -> bool
     ensures { λ r. ⌜ r ≡ unfitBuffers size (now (random .entry)) (now (output .entry)) ⌝ }
 {
-    (output.len() < LEAST_OUTPUT) | (random.len() != size)
+    unfit_output(output) | (random.len() != size)
 }
 
 // The first of refusals 1 to 4 that applies, or a grant to go on. `unfit` says that the buffers are.

@@ -1,4 +1,4 @@
-// authorization_server: the three endpoints as a C host calls them. Numbers and byte slices in, numbers and bytes out.
+// authorization_server: the four endpoints as a C host calls them. Numbers and byte slices in, numbers and bytes out.
 //
 // No function here asks anything of its caller: unfit buffers, registry, store and clock get refusals 1 to 4. No length that is
 // answered is more than the output's.
@@ -9,7 +9,7 @@ ghost use mathlib.Core.Path.{_≡_};
 ghost use mathlib.Core.List.{[]};
 ghost use Prim.Native.Nat.{_≤_};
 ghost use lib.ListN.{length};
-ghost use Rattle.protocol.specs.Outcomes.{authorizationOutcome, tokenOutcome, checkOutcome};
+ghost use Rattle.protocol.specs.Outcomes.{authorizationOutcome, tokenOutcome, revocationOutcome, checkOutcome};
 ghost use Rattle.authorization_server.specs.Numbers.{authorizationReply, tokenReply, checkReply, inNumbers};
 
 // What the authorization endpoint answers, in numbers. `refusal` is 0 or 1 to 7, `error` the number of an error word or 0,
@@ -21,7 +21,7 @@ pub struct AuthorizationReply {
     pub length: usize,
 }
 
-// What the token endpoint answers, in numbers. `refusal` is 0 or 1 to 4, `status` the HTTP status, `error` the number of an
+// What the token and the revocation endpoint answer, in numbers. `refusal` is 0 or 1 to 4, `status` the HTTP status, `error` the number of an
 // error word or 0, `challenge` whether to send WWW-Authenticate, `length` how many bytes of reply were written.
 #[repr(C)]
 pub struct TokenReply {
@@ -99,6 +99,25 @@ pub extern "C" fn poplarchime_token(
         random,
         output,
     ))
+}
+
+// The revocation endpoint: the Authorization field's value, empty when there is none, and a body. No random bytes.
+#[no_mangle]
+pub extern "C" fn poplarchime_revoke(
+    header: &[u8],
+    body: &[u8],
+    registry: &[u8],
+    store: &mut [u8],
+    clock: u64,
+    output: &mut [u8],
+) -> TokenReply
+    ensures { λ r. ⌜ record { answer = r; output = now (output .exit); store = now (store .exit) }
+        ≡ inNumbers tokenReply
+        (revocationOutcome (now (header .entry)) (now (body .entry)) (now (registry .entry)) (now (store .entry)) clock
+        (now (output .entry))) ⌝ }
+    ensures { λ r. ⌜ r .length ≤ length (now (output .entry)) ⌝ }
+{
+    numbers::token_reply(revocation_endpoint::revoke(header, body, registry, store, clock, output))
 }
 
 // The access token check: a bare access token.

@@ -10,18 +10,18 @@ use Rattle.octets.specs.Lists.{same}
 use Rattle.encoding.specs.declared.HandleText.{HandleText}
 use Rattle.token_store.specs.Layout.{handleSize}
 use Rattle.octets.specs.Search.{count, any, firstOr, replaceFirst, replaceAll}
-use Rattle.token_store.specs.Store.{kindCode, kindBoundCode, kindAccess, kindRefresh, kindSpent, kindChallengedCode, noLink, linkTo, freeSlot, spentCode}
+use Rattle.token_store.specs.Store.{kindCode, kindBoundCode, kindAccess, kindRefresh, kindSpent, noLink, linkTo, freeSlot, spentCode}
 use Rattle.token_store.specs.declared.Slot.{Slot}
 use Rattle.protocol.specs.declared.ErrorWord.the-variants.{InvalidGrant, InvalidScope, TemporarilyUnavailable, ServerError}
 use Rattle.protocol.specs.declared.Refusal.the-variants.{Redirect, Token, Failed}
 use Rattle.protocol.specs.declared.Failure.the-variants.{NoRoom, Clash}
 use Rattle.protocol.specs.declared.ScopeAsked.{ScopeAsked}
 use Rattle.protocol.specs.declared.ScopeAsked.the-variants.{Everything, Only, Unreadable}
-use Rattle.protocol.specs.declared.Request.the-variants.{Code, Exchange, Refresh, Credentials}
+use Rattle.protocol.specs.declared.Request.the-variants.{Code, Exchange, Refresh, Credentials, Revocation}
 use Rattle.protocol.specs.declared.Reading.{Reading}
 use Rattle.protocol.specs.Refusals.{firstOf}
-use Rattle.protocol.specs.Requests.{fits, scopeGiven, noHandle, noChallenge, presentingNone, refusedReading}
-use Rattle.protocol.specs.Granting.{Plan, refusedPlan, codePlan, exchangePlan, refreshPlan, credentialsPlan, planFor, planOf, decisionOn, slotsBy, slotsAfter}
+use Rattle.protocol.specs.Requests.{fits, scopeGiven, noChallenge, presentingNone, refusedReading}
+use Rattle.protocol.specs.Granting.{Plan, refusedPlan, codePlan, exchangePlan, refreshPlan, credentialsPlan, revocationPlan, planFor, planOf, decisionOn, slotsBy, slotsAfter}
 use Rattle.granting.specs.declared.Granted.{Granted}
 use Rattle.granting.specs.Granted.{refusedWith, grantedWith, grantedBy}
 
@@ -65,6 +65,9 @@ exchange client x again = record { request = Exchange (record { client = client;
 
 abbrev refresh : ℕ → ℕ → ScopeAsked → Reading
 refresh client x scope = record { request = Refresh (record { client = client; scope = scope }); presented = shown x; challenge = noChallenge }
+
+abbrev revocation : ℕ → ℕ → Reading
+revocation client x = record { request = Revocation (record { client = client }); presented = shown x; challenge = noChallenge }
 
 -- an access token for client 0 itself
 abbrev itself : Reading
@@ -122,13 +125,21 @@ cases =
     ∷ case 1000 (code ∷ token ∷ []) (random 1 2) itself (refusedWith (Failed NoRoom))
     ∷ case 1000 slots (random 1 8) itself (grantedWith 9 false)
     ∷ case 1000 slots (random 8 1) itself (refusedWith (Failed Clash))
+    -- a revocation, without random bytes; another client's token; a handle that no slot has, and that of a code
+    ∷ case 1000 exchanged [] (revocation 0 8) (grantedWith 0 false)
+    ∷ case 1000 exchanged [] (revocation 1 8) (refusedWith (Token InvalidGrant))
+    ∷ case 1000 exchanged [] (revocation 1 9) (grantedWith 0 false)
+    ∷ case 1000 slots [] (revocation 1 7) (grantedWith 0 false)
+    -- at its expiry it is nobody's
+    ∷ case 8999 exchanged [] (revocation 1 8) (refusedWith (Token InvalidGrant))
+    ∷ case 9000 exchanged [] (revocation 1 8) (grantedWith 0 false)
     ∷ []
 
 abbrev planIn : Case → Plan
 planIn c = planOf (c .t) (c .slots) (c .random) (c .reading)
 
 pub cases-hold : map (λ c. grantedBy (decisionOn (planIn c)) (planIn c)) cases ≡ map (λ c. c .answer) cases
-unfolding grantedBy firstOf planFor refusedPlan codePlan exchangePlan refreshPlan credentialsPlan fits scopeGiven count any firstOr replaceFirst same freeSlot
+unfolding grantedBy firstOf planFor refusedPlan codePlan exchangePlan refreshPlan credentialsPlan revocationPlan fits scopeGiven count any firstOr replaceFirst same freeSlot
 cases-hold = refl
 
 -- a code is bound where redirect_uri was given
@@ -158,33 +169,53 @@ pub itself-leaves : slotsAfter (planOf 1000 slots (random 1 2) itself)
 unfolding slotsBy firstOf planFor credentialsPlan count any firstOr replaceFirst same freeSlot
 itself-leaves = refl
 
--- ---- what a refused exchange leaves, one case a row: the slots, or without the tokens of a code that is shown again
+-- ---- what a call that issues nothing leaves, one case a row
 
-pub record Refusal : Type 0 where
+pub record Clearing : Type 0 where
   pub t : ℕ
   pub slots : List Slot
   pub reading : Reading
   pub left : List Slot
 
-abbrev refusal : ℕ → List Slot → Reading → List Slot → Refusal
-refusal t slots reading left = record { t = t; slots = slots; reading = reading; left = left }
+abbrev clearing : ℕ → List Slot → Reading → List Slot → Clearing
+clearing t slots reading left = record { t = t; slots = slots; reading = reading; left = left }
 
-abbrev refusals : List Refusal
+-- a refused exchange: the slots, or without the tokens of a code that is shown again
+abbrev refusals : List Clearing
 refusals =
     -- another client's try of a code that is not spent
-    refusal 1000 slots (exchange 1 7 true) slots
+    clearing 1000 slots (exchange 1 7 true) slots
     -- a spent code is shown again: no redirect address is asked for; at its expiry, and by another client, it clears nothing
-    ∷ refusal 1599 exchanged (exchange 0 6 false) cleared
-    ∷ refusal 1600 exchanged (exchange 0 6 false) exchanged
-    ∷ refusal 1000 exchanged (exchange 1 6 false) exchanged
+    ∷ clearing 1599 exchanged (exchange 0 6 false) cleared
+    ∷ clearing 1600 exchanged (exchange 0 6 false) exchanged
+    ∷ clearing 1000 exchanged (exchange 1 6 false) exchanged
     -- an unspent code has its handle, and has run out
-    ∷ refusal 1000 (slot kindCode 6 600 noLink ∷ exchanged) (exchange 0 6 false) (slot kindCode 6 600 noLink ∷ exchanged)
+    ∷ clearing 1000 (slot kindCode 6 600 noLink ∷ exchanged) (exchange 0 6 false) (slot kindCode 6 600 noLink ∷ exchanged)
     -- a lower spent code of its handle has run out
-    ∷ refusal 1000 (slot kindSpent 6 600 noLink ∷ exchanged) (exchange 0 6 false) (slot kindSpent 6 600 noLink ∷ exchanged)
+    ∷ clearing 1000 (slot kindSpent 6 600 noLink ∷ exchanged) (exchange 0 6 false) (slot kindSpent 6 600 noLink ∷ exchanged)
     -- a spent code of zeros clears no code
-    ∷ refusal 1000 (slot kindSpent 0 1600 noLink ∷ slots) (exchange 0 0 false) (slot kindSpent 0 1600 noLink ∷ slots)
+    ∷ clearing 1000 (slot kindSpent 0 1600 noLink ∷ slots) (exchange 0 0 false) (slot kindSpent 0 1600 noLink ∷ slots)
     ∷ []
 
 pub refusals-hold : map (λ c. slotsAfter (planOf (c .t) (c .slots) (random 1 2) (c .reading))) refusals ≡ map (λ c. c .left) refusals
 unfolding slotsBy firstOf planFor exchangePlan count any firstOr replaceFirst replaceAll same freeSlot
 refusals-hold = refl
+
+-- a revocation: without a refresh token and the access tokens of its origin, or without an access token, or the slots
+abbrev revocations : List Clearing
+revocations =
+    clearing 1000 exchanged (revocation 0 8) cleared
+    ∷ clearing 1000 exchanged (revocation 0 4) (slot kindSpent 6 1600 noLink ∷ slot kindAccess 5 900 (from 6) ∷ token ∷ freeSlot ∷ [])
+    -- another refresh token of its origin stays
+    ∷ clearing 1000 (slot kindRefresh 3 9000 (from 6) ∷ exchanged) (revocation 0 8) (slot kindRefresh 3 9000 (from 6) ∷ cleared)
+    -- the lower of two slots with its handle is the one that is looked at: here it has run out
+    ∷ clearing 1000 (slot kindAccess 8 900 (from 6) ∷ exchanged) (revocation 0 8) (slot kindAccess 8 900 (from 6) ∷ exchanged)
+    -- one that has run out, that of another client, and a code
+    ∷ clearing 1000 exchanged (revocation 0 5) exchanged
+    ∷ clearing 1000 exchanged (revocation 1 8) exchanged
+    ∷ clearing 1000 slots (revocation 0 7) slots
+    ∷ []
+
+pub revocations-hold : map (λ c. slotsAfter (planOf (c .t) (c .slots) [] (c .reading))) revocations ≡ map (λ c. c .left) revocations
+unfolding slotsBy firstOf planFor revocationPlan any firstOr replaceFirst replaceAll same freeSlot
+revocations-hold = refl

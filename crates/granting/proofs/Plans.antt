@@ -1,23 +1,25 @@
 -- Laws of the steps of a grant, and of what follows from a plan (protocol's Granting.antt).
 --
--- In order: what the search for the client's own code or token says; what a refused exchange leaves; the kinds of a code; what
--- follows from a plan's reasons, where one applies, where none does, and where others are passed before them.
+-- In order: what the search for the client's own code or token says; what a refused exchange leaves; what a revocation
+-- leaves; the kinds of a code; what follows from a plan's reasons, where one applies, where none does, and where others are
+-- passed before them.
 --
 -- Not here: how a list of reasons ends (protocol's `Reasons`).
 -- Assumes nothing.
 use mathlib.Core.Path.{_≡_, refl, sym, ap, _∙_}
-use mathlib.Core.Bool.{Bool, true, false, cond, and-false}
+use mathlib.Core.Bool.{Bool, true, false, cond, not, _&&_, and-false}
 use mathlib.Core.List.{List, _++_}
 use Prim.Native.Nat.{ℕ, _≤_}
 use native.Mathlib.Omega.{arith}
-use lib.Dec.{lit≤}
-use lib.ListN.{drop}
+use borrow.Author.Tests.{eq-eqb, ne-eqb}
+use lib.Dec.{eqb, lit≤}
+use lib.ListN.{drop, set}
 use Rattle.octets.specs.Search.{indexWhere, any}
 use Rattle.encoding.specs.declared.HandleText.{HandleText}
-use Rattle.token_store.specs.Store.{Store, withSlots, codeKind, kindLast, soughtKey, withoutTokens, foundAt, decode}
+use Rattle.token_store.specs.Store.{Store, withSlots, codeKind, kindRefresh, kindLast, freeSlot, isLive, originOf, soughtKey, withoutTokens, foundAt, decode}
 use Rattle.token_store.specs.declared.Slot.{Slot}
 use Rattle.token_store.specs.declared.Sought.{Sought}
-use Rattle.token_store.specs.declared.Sought.the-variants.{Code as soughtCode, Spent as soughtSpent}
+use Rattle.token_store.specs.declared.Sought.the-variants.{Code as soughtCode, Spent as soughtSpent, Access as soughtAccess, Token as soughtToken}
 use Rattle.token_store.specs.declared.Found.{Found}
 use Rattle.token_store.specs.declared.Found.the-variants.{At, Nothing}
 use Rattle.token_store.proofs.Slots.{free-dead}
@@ -26,10 +28,10 @@ use Rattle.protocol.specs.declared.Refusal.{Refusal}
 use Rattle.protocol.specs.declared.Decision.{Decision}
 use Rattle.protocol.specs.declared.Decision.the-variants.{Grant, Refuse}
 use Rattle.protocol.specs.Refusals.{Reason}
-use Rattle.protocol.specs.Granting.{Plan, afterReasons, decisionOn, slotsBy, shownSlot, isOwn, refusedSlots}
+use Rattle.protocol.specs.Granting.{Plan, afterReasons, decisionOn, slotsBy, shownSlot, isOwn, refusedSlots, revokedSlots}
 use Rattle.protocol.proofs.Reasons.{First, first-counts}
 use Rattle.granting.specs.declared.Granted.{Granted}
-use Rattle.granting.specs.Granted.{refusedWith, grantedWith, grantedBy, Follows, ownAt}
+use Rattle.granting.specs.Granted.{refusedWith, grantedWith, grantedBy, Follows, ownAt, freedAt}
 
 -- ---- the client's own
 
@@ -73,8 +75,37 @@ module _ (t client : ℕ) (presented : HandleText) (slots : List Slot) where
   unowned-keeps e = rw (e, and-false)
 
   pub again-clears : any (soughtKey soughtCode presented) slots ≡ false → isOwn t client (shownSlot soughtSpent presented slots) ≡ true
-      → withoutTokens (presented .bytes) slots ≡ refusedSlots t client presented slots
+      → withoutTokens soughtToken (presented .bytes) slots ≡ refusedSlots t client presented slots
   again-clears e o = rw (e, o)
+
+-- ---- what a revocation leaves: a token that is freed takes access tokens along where it is a refresh token
+
+module _ (i : ℕ) (token : Slot) (slots : List Slot) where
+  pub refresh-freed : token .kind ≡ kindRefresh → withoutTokens soughtAccess (originOf token) (set slots i freeSlot) ≡ freedAt i token slots
+  refresh-freed e = rw (eq-eqb (token .kind) kindRefresh e)
+
+  pub other-freed : (token .kind ≡ kindRefresh → ⊥) → set slots i freeSlot ≡ freedAt i token slots
+  other-freed n = rw (ne-eqb (token .kind) kindRefresh n)
+
+-- the slots, where the token presented is not live; else without the one that is found, which is the client's or another's
+
+module _ (t : ℕ) (presented : HandleText) (slots : List Slot) where
+  abbrev token : Slot
+  token = shownSlot soughtToken presented slots
+
+  pub dead-keeps : isLive t token ≡ false → slots ≡ revokedSlots t presented slots
+  dead-keeps e = rw e
+
+  pub live-frees : (i : ℕ) → FirstSlot (soughtKey soughtToken presented) slots i → isLive t token ≡ true
+      → freedAt i token slots ≡ revokedSlots t presented slots
+  live-frees i first e = rw (e, first .replaced freeSlot)
+
+  module _ (client : ℕ) (e : isLive t token ≡ true) where
+    pub others-token : (token .client ≡ client → ⊥) → (isLive t token && not (eqb (token .client) client)) ≡ true
+    others-token n = rw (e, ne-eqb (token .client) client n)
+
+    pub own-token : token .client ≡ client → (isLive t token && not (eqb (token .client) client)) ≡ false
+    own-token o = rw (e, eq-eqb (token .client) client o)
 
 -- ---- the kinds of a code are kinds
 

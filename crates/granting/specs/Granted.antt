@@ -2,21 +2,24 @@
 --
 -- What granting answers and leaves, by a request's plan (protocol's Granting.antt).
 use Prim.Native.Nat.{ℕ}
+use lib.Dec.{eqb}
+use lib.ListN.{set}
 use mathlib.Core.Path.{_≡_}
 use mathlib.Core.Bool.{Bool, false, cond}
 use mathlib.Core.List.{List}
 use Rattle.encoding.specs.declared.HandleText.{HandleText}
 use Rattle.octets.specs.Search.{indexWhere}
-use Rattle.token_store.specs.Store.{Store, kindAccess, kindRefresh, withSlots, soughtKey, foundAt, issue}
+use Rattle.token_store.specs.Store.{Store, kindAccess, kindRefresh, withSlots, freeSlot, originOf, withoutTokens, soughtKey, foundAt, issue}
 use Rattle.token_store.specs.declared.Slot.{Slot}
 use Rattle.token_store.specs.declared.Sought.{Sought}
+use Rattle.token_store.specs.declared.Sought.the-variants.{Access as soughtAccess}
 use Rattle.token_store.specs.declared.Found.{Found}
 use Rattle.token_store.specs.declared.Found.the-variants.{Nothing}
 use Rattle.protocol.specs.declared.Refusal.{Refusal}
 use Rattle.protocol.specs.declared.Decision.{Decision}
 use Rattle.protocol.specs.declared.Decision.the-variants.{Grant, Refuse}
 use Rattle.protocol.specs.declared.Request.{Request}
-use Rattle.protocol.specs.declared.Request.the-variants.{Refused, Code, Exchange, Refresh, Credentials}
+use Rattle.protocol.specs.declared.Request.the-variants.{Refused, Code, Exchange, Refresh, Credentials, Revocation}
 use Rattle.protocol.specs.Limits.{codeRandom, tokenRandom}
 use Rattle.protocol.specs.Granting.{Plan, decisionOn, slotsAfter, shownSlot, isOwn, tokenOn}
 use Rattle.granting.specs.declared.Granted.{Granted}
@@ -46,6 +49,7 @@ randomNeeded (Code r) = codeRandom
 randomNeeded (Exchange r) = tokenRandom
 randomNeeded (Refresh r) = tokenRandom
 randomNeeded (Credentials r) = tokenRandom
+randomNeeded (Revocation r) = 0
 
 -- ---- steps of a grant
 
@@ -59,3 +63,9 @@ abbrev pub spentOn : ℕ → List ℕ → List ℕ → Slot → List Slot → Li
 spentOn t first second code slots =
     issue t (tokenOn code (code .handle) t kindRefresh second (code .scope))
     (issue t (tokenOn code (code .handle) t kindAccess first (code .scope)) slots)
+
+-- the slots after a token in slot i is freed, and with a refresh token the access tokens that came from the same code
+abbrev pub freedAt : ℕ → Slot → List Slot → List Slot
+freedAt i token slots =
+    let others = set slots i freeSlot in
+    cond (eqb (token .kind) kindRefresh) (withoutTokens soughtAccess (originOf token) others) others

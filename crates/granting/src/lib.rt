@@ -1,8 +1,9 @@
 // granting: what the store grants to a request that is read and admitted, and what that leaves in its slots.
 //
 // A grant decides first and changes the store only once nothing is left to refuse: a request that is refused spends
-// nothing. One refusal changes the store: a code that is shown again withdraws the tokens that came from it. Time is the
-// call's time t, which no clock moves back, and never a clock.
+// nothing. One refusal changes the store: a code that is shown again withdraws the tokens that came from it. A revocation
+// that is granted issues nothing: it takes a token out of the store. Time is the call's time t, which no clock moves back,
+// and never a clock.
 use encoding::DigestText;
 use encoding::HandleText;
 use protocol::CodeRequest;
@@ -16,6 +17,7 @@ use protocol::Reading;
 use protocol::RefreshRequest;
 use protocol::Refusal;
 use protocol::Request;
+use protocol::RevocationRequest;
 use token_store::Found;
 use token_store::Slot;
 use token_store::Sought;
@@ -29,16 +31,17 @@ use token_store::layout::KIND_REFRESH;
 use token_store::layout::KIND_SPENT;
 use token_store::layout::LINK_SIZE;
 ghost use mathlib.Core.Path.{_≡_};
+ghost use mathlib.Core.List.{[]};
 ghost use Prim.Native.Nat.{_+_, _<_, _≤_};
 ghost use lib.ListN.{length, set};
 ghost use Rattle.token_store.specs.Layout.{storeSize, slotCount, latestTime};
 ghost use Rattle.token_store.specs.Store.{decode, withSlots, spentCode, codeKind, kindLast, lifetimeOf};
 ghost use Rattle.protocol.specs.Limits.{codeRandom, tokenRandom};
-ghost use Rattle.protocol.specs.Granting.{newCode, tokenOn, clientToken, isUnverified, refusedSlots, anyTaken, singlePlan, accessPlan, codePlan, exchangePlan, refreshPlan, credentialsPlan, planOf};
-ghost use Rattle.granting.specs.Granted.{refusedWith, grantedWith, Follows, randomNeeded, ownAt, spentOn};
+ghost use Rattle.protocol.specs.Granting.{newCode, tokenOn, clientToken, isUnverified, refusedSlots, anyTaken, singlePlan, accessPlan, codePlan, exchangePlan, refreshPlan, credentialsPlan, revocationPlan, planOf};
+ghost use Rattle.granting.specs.Granted.{refusedWith, grantedWith, Follows, randomNeeded, ownAt, spentOn, freedAt};
 
-// What a request comes to: the decision; with a grant the scope of what is issued, and whether a refresh token comes
-// with it; 0 and false with a refusal.
+// What a request comes to: the decision; the scope of what is issued, and whether a refresh token comes with it; 0 and
+// false where nothing is issued.
 pub struct Granted {
     pub decision: Decision,
     pub scope: u8,
@@ -265,7 +268,7 @@ fn withdraw_shown_again(store: &mut [u8], t: u64, presented: HandleText, client:
         return;
     };
     let handle = presented.bytes;
-    token_store::clear_tokens(store, &handle);
+    token_store::clear_tokens(store, Sought::Token, &handle);
 }
 
 // Keeps a code as spent, then issues an access and a refresh token on it.
@@ -383,6 +386,42 @@ fn grant_credentials(
     grant_access(store, t, client_token(t, handle, request))
 }
 
+// Frees slot i with the token that is in it; with a refresh token the access tokens that came from the same code too.
+fn free_token(store: &mut [u8], i: usize, token: Slot)
+    requires { ⌜ (length (now store) ≡ storeSize) × (i < slotCount) ⌝ }
+    ensures { λ _.
+        let before = decode (now (store .entry)) in
+        ⌜ decode (now (store .exit)) ≡ withSlots before (freedAt i token (before .slots)) ⌝ }
+{
+    token_store::clear(store, i);
+    if token.kind == KIND_REFRESH {
+        let origin = token.origin();
+        token_store::clear_tokens(store, Sought::Access, &origin);
+    }
+}
+
+// Revokes the token presented. One that is not there or has run out needs nothing; another client's is refused. No random
+// bytes are looked at.
+fn revoke(store: &mut [u8], t: u64, presented: HandleText, request: RevocationRequest) -> Granted
+    requires { ⌜ length (now store) ≡ storeSize ⌝ }
+    ensures { λ r.
+        let before = decode (now (store .entry)) in
+        ⌜ Follows (revocationPlan t (before .slots) [] presented request) before r (decode (now (store .exit))) ⌝ }
+{
+    let Found::At(i) = token_store::find(store, Sought::Token, presented) else {
+        return issued(0, false);
+    };
+    let token = token_store::slot_at(store, i);
+    if !token.is_live(t) {
+        return issued(0, false);
+    }
+    if token.client != request.client {
+        return refused(Refusal::Token(ErrorWord::InvalidGrant));
+    }
+    free_token(store, i, token);
+    issued(0, false)
+}
+
 // Grants what a call asks, or refuses it. A call that was refused as it was read stays so.
 pub fn grant(store: &mut [u8], t: u64, random: &[u8], reading: Reading) -> Granted
     requires { ⌜ (length (now store) ≡ storeSize) × (t ≤ latestTime) × (randomNeeded (reading .request) ≤ length (now random)) ⌝ }
@@ -406,5 +445,6 @@ pub fn grant(store: &mut [u8], t: u64, random: &[u8], reading: Reading) -> Grant
         ),
         Request::Refresh(refresh) => grant_refresh(store, t, random, presented, refresh),
         Request::Credentials(credentials) => grant_credentials(store, t, random, credentials),
+        Request::Revocation(revocation) => revoke(store, t, presented, revocation),
     }
 }

@@ -74,7 +74,7 @@ module _ (registry : List ℕ) (bytes : Bytes registry) where
   -- ---- through one call
 
   -- what the calls contain after one that is not refused with 1 to 4
-  seen-event : (e : Event) (k : Contents) → e .result .unfit ≡ false
+  pub seen-event : (e : Event) (k : Contents) → e .result .unfit ≡ false
       → let t = max (handedTo (e .call) .clock) (k .highest) in
       withEvent clients e k
       ≡ record { highest = t; standing = standingAfter clients t (k .standing) (e .call) (e .result); randoms = twenties (e .call) ++ k .randoms }

@@ -33,7 +33,7 @@ use Rattle.protocol.specs.declared.Refusal.the-variants.{Unfit, ErrorPage, Redi
 use Rattle.protocol.specs.declared.Decision.{Decision}
 use Rattle.protocol.specs.declared.Decision.the-variants.{Grant, Refuse}
 use Rattle.protocol.specs.declared.Request.{Request}
-use Rattle.protocol.specs.declared.Request.the-variants.{Refused, Code, Exchange, Refresh, Credentials}
+use Rattle.protocol.specs.declared.Request.the-variants.{Refused, Code, Exchange, Refresh, Credentials, Revocation}
 use Rattle.protocol.specs.declared.Reading.{Reading}
 use Rattle.protocol.specs.declared.LiveToken.{LiveToken}
 use Rattle.protocol.specs.declared.CheckAnswer.the-variants.{NotLive, Live}
@@ -43,15 +43,16 @@ use Rattle.protocol.specs.Refusals.{Reason, firstOf}
 use Rattle.protocol.specs.Requests.{refusedReading}
 use Rattle.protocol.specs.Authorization.{readAuthorization}
 use Rattle.protocol.specs.Token.{readToken}
-use Rattle.protocol.specs.Granting.{Plan, shownSlot, liveToken, refusedPlan, codePlan, exchangePlan, refreshPlan, credentialsPlan, planFor, planOf, decisionOn, slotsBy, slotsAfter, checkSlots}
-use Rattle.protocol.specs.Outcomes.{unfitReasons, Handed, Endpoint, Outcome, admit, outcomeBy, outcome, unfitBuffers, serveAuthorization, authorizationEndpoint, serveToken, tokenEndpoint, serveCheck, checkEndpoint, clockAlone}
-use Rattle.history.specs.Calls.{Call, authorization, token, check, handedTo, WellTyped}
+use Rattle.protocol.specs.Revocation.{readRevocation}
+use Rattle.protocol.specs.Granting.{Plan, shownSlot, liveToken, refusedPlan, codePlan, exchangePlan, refreshPlan, credentialsPlan, revocationPlan, planFor, planOf, decisionOn, slotsBy, slotsAfter, checkSlots}
+use Rattle.protocol.specs.Outcomes.{unfitReasons, Handed, Endpoint, Outcome, admit, outcomeBy, outcome, unfitOutput, unfitBuffers, serveAuthorization, authorizationEndpoint, serveToken, tokenEndpoint, withoutRandom, serveRevocation, revocationEndpoint, serveCheck, checkEndpoint, clockAlone}
+use Rattle.history.specs.Calls.{Call, authorization, token, revocation, check, handedTo, WellTyped}
 use Rattle.history.specs.Server.{Answer, authorizationAnswer, tokenAnswer, checkAnswer, answering, outcomeOf, isUnfitRefusal, isUnfitDecision, isUnfitCheck, isUnfit, isGranted}
 use Rattle.history.specs.Contents.{firstTwenty, lastTwenty, twenties}
 use Rattle.history.specs.AnyStore.{unfitAnswer, unfitOutcome}
 use Rattle.octets.proofs.Booleans.{or-none}
 use Rattle.protocol.proofs.Reasons.{unrefused, decided}
-use Rattle.history.proofs.Readings.{FitClients, OneHandle, TwoHandles, second-last, Brings, BringsAs, authorization-brings, token-brings}
+use Rattle.history.proofs.Readings.{FitClients, OneHandle, TwoHandles, second-last, Brings, BringsAs, authorization-brings, token-brings, revocation-brings}
 
 -- ---- calls over a store as a record, past refusals 1 to 4
 
@@ -69,12 +70,15 @@ unfoldable pub outcomeOn : List Client → Store → Call → Outcome Answer
 outcomeOn clients g (authorization query decision farm handed) =
     answering authorizationAnswer (servedOn (authorizationEndpoint query decision farm) clients g handed)
 outcomeOn clients g (token header body handed) = answering tokenAnswer (servedOn (tokenEndpoint header body) clients g handed)
+outcomeOn clients g (revocation header body clock output) =
+    answering tokenAnswer (servedOn (revocationEndpoint header body) clients g (withoutRandom clock output))
 outcomeOn clients g (check presented clock) = answering checkAnswer (servedOn (checkEndpoint presented) clients g (clockAlone clock))
 
 -- what a call asks, read from its arguments; a check asks for nothing that could be granted
 unfoldable pub asked : List Client → Call → Reading
 asked clients (authorization query decision farm handed) = readAuthorization clients query decision farm
 asked clients (token header body handed) = readToken clients header body
+asked clients (revocation header body clock output) = readRevocation clients header body
 asked clients (check presented clock) = refusedReading (ErrorPage Query)
 
 -- ---- refusals 1 to 4
@@ -83,6 +87,7 @@ asked clients (check presented clock) = refusedReading (ErrorPage Query)
 unfoldable pub unfitTo : Call → Bool
 unfitTo (authorization query decision farm handed) = unfitBuffers codeRandom (handed .random) (handed .output)
 unfitTo (token header body handed) = unfitBuffers tokenRandom (handed .random) (handed .output)
+unfitTo (revocation header body clock output) = unfitOutput output
 unfitTo (check presented clock) = false
 
 -- it is past refusals 1 to 4
@@ -102,6 +107,7 @@ pub refused-unfit : (c : Call) (i : Input) → isUnfit (unfitAnswer c i) ≡ tru
 unfolding unfitAnswer isUnfit isUnfitDecision isUnfitCheck isUnfitRefusal
 refused-unfit (authorization query decision farm handed) i = refl
 refused-unfit (token header body handed) i = refl
+refused-unfit (revocation header body clock output) i = refl
 refused-unfit (check presented clock) i = refl
 
 module _ (registry store : List ℕ) where
@@ -128,6 +134,7 @@ module _ (registry store : List ℕ) where
   unfolding handedTo unfitTo unfitAnswer outcomeOf outcomeOn
   take (authorization query decision farm handed) = take-at authorizationAnswer (authorizationEndpoint query decision farm) handed
   take (token header body handed) = take-at tokenAnswer (tokenEndpoint header body) handed
+  take (revocation header body clock output) = take-at tokenAnswer (revocationEndpoint header body) (withoutRandom clock output)
   take (check presented clock) = take-at checkAnswer (checkEndpoint presented) (clockAlone clock)
 
   module _ (c : Call) where
@@ -187,6 +194,7 @@ call-brings clients fit (authorization query decision farm handed) typed e =
     let one : OneHandle (handed .random) (handed .random ∷ []) = record { size = size; small = typed .1; handles = rw (take-all 20 (handed .random) (omega arith)) } in
     authorization-brings clients fit one query decision farm (typed .0)
 call-brings clients fit (token header body handed) typed e = token-brings clients fit (two-handles handed typed e) header body
+call-brings clients fit (revocation header body clock output) typed e = revocation-brings clients [] [] header body
 call-brings clients fit (check presented clock) typed e = refl
 
 -- ---- a call that is served, as the plan of its request
@@ -220,13 +228,14 @@ status-grant (Refuse (Failed f)) = failure-status f
 -- what is decided is no refusal with 1 to 4
 plan-fit : (clients : ℕ) (twenties : List (List ℕ)) (t : ℕ) (slots : List Slot) (random : List ℕ) (p : HandleText) (d : DigestText) (request : Request)
     → Brings clients random twenties d request → isUnfitDecision (decisionOn (planFor t slots random p d request)) ≡ false
-unfolding planFor refusedPlan codePlan exchangePlan refreshPlan credentialsPlan Brings isUnfitDecision isUnfitRefusal
+unfolding planFor refusedPlan codePlan exchangePlan refreshPlan credentialsPlan revocationPlan Brings isUnfitDecision isUnfitRefusal
 plan-fit clients twenties t slots random p d (Refused r) q = decided (λ made. isUnfitDecision made ≡ false) _ (q, tt) (λ _. refl)
 plan-fit clients twenties t slots random p d (Code r) q = decided (λ made. isUnfitDecision made ≡ false) _ (refl, (refl, tt)) (λ _. refl)
 plan-fit clients twenties t slots random p d (Exchange r) q =
     decided (λ made. isUnfitDecision made ≡ false) _ (refl, (refl, (refl, (refl, (refl, tt))))) (λ _. refl)
 plan-fit clients twenties t slots random p d (Refresh r) q = decided (λ made. isUnfitDecision made ≡ false) _ (refl, (refl, (refl, (refl, tt)))) (λ _. refl)
 plan-fit clients twenties t slots random p d (Credentials r) q = decided (λ made. isUnfitDecision made ≡ false) _ (refl, (refl, tt)) (λ _. refl)
+plan-fit clients twenties t slots random p d (Revocation r) q = decided (λ made. isUnfitDecision made ≡ false) _ (refl, tt) (λ _. refl)
 
 refused-keeps : (plan : Plan) → isGrant (decisionOn plan) ≡ false → slotsAfter plan ≡ plan .denied
 unfolding slotsBy isGrant
@@ -250,15 +259,17 @@ module _ (clients : List Client) (g : Store) where
   leftBy c = record { time = callTime g (handedTo c .clock); slots = slotsAfter (planOn c) }
 
   pub store-on : (c : Call) → outcomeOn clients g c .store ≡ encode (leftBy c)
-  unfolding outcomeOn asked handedTo serveAuthorization serveToken serveCheck planFor refusedPlan slotsBy firstOf
+  unfolding outcomeOn asked handedTo serveAuthorization serveToken serveRevocation serveCheck planFor refusedPlan slotsBy firstOf
   store-on (authorization query decision farm handed) = refl
   store-on (token header body handed) = refl
+  store-on (revocation header body clock output) = refl
   store-on (check presented clock) = refl
 
   pub granted-on : (c : Call) → isGranted (outcomeOn clients g c .answer) ≡ isGrant (decisionOn (planOn c))
-  unfolding outcomeOn asked handedTo serveAuthorization serveToken isGranted isGrant planFor refusedPlan firstOf
+  unfolding outcomeOn asked handedTo serveAuthorization serveToken serveRevocation isGranted isGrant planFor refusedPlan firstOf
   granted-on (authorization query decision farm handed) = refl
   granted-on (token header body handed) = status-grant (decisionOn (planOn (token header body handed)))
+  granted-on (revocation header body clock output) = status-grant (decisionOn (planOn (revocation header body clock output)))
   granted-on (check presented clock) = refl
 
   -- one that is not granted leaves what its plan says
@@ -267,8 +278,9 @@ module _ (clients : List Client) (g : Store) where
 
   pub fit-on : (c : Call) → BringsAs (length clients) (handedTo c .random) (twenties c) (asked clients c)
       → isUnfit (outcomeOn clients g c .answer) ≡ false
-  unfolding outcomeOn asked handedTo serveAuthorization serveToken serveCheck isUnfit checkSlots
+  unfolding outcomeOn asked handedTo serveAuthorization serveToken serveRevocation serveCheck isUnfit checkSlots
   fit-on (authorization query decision farm handed) q = plan-fit (length clients) _ _ (g .slots) (handed .random) _ _ _ q
   fit-on (token header body handed) q = plan-fit (length clients) _ _ (g .slots) (handed .random) _ _ _ q
+  fit-on (revocation header body clock output) q = plan-fit (length clients) _ _ (g .slots) [] _ _ _ q
   fit-on (check presented clock) q =
       let s = shownSlot Access (readHandle presented) (g .slots) in live-fit (isLive (callTime g clock) s) (liveToken (callTime g clock) s)

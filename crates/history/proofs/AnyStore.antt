@@ -28,7 +28,7 @@ use Rattle.client_registry.specs.Registry.{Client, fitRegistry, clientsOf}
 use Rattle.client_registry.specs.Lookup.{clientAt}
 use Rattle.token_store.specs.Layout.{latestTime, timeSize, slotSize, slotCount, storeSize}
 use Rattle.token_store.specs.Store.{Store, isToken, originOf, isSought, isLive, freeSlot, shows, soughtKey, comesFrom, withoutTokens, concat, tabulate, slotBytes, decodeSlot, encode, decode, callTime}
-use Rattle.token_store.specs.declared.Sought.the-variants.{Code, Spent}
+use Rattle.token_store.specs.declared.Sought.the-variants.{Code, Spent, Token as soughtToken}
 use Rattle.token_store.proofs.Slots.{sought-used}
 use Rattle.token_store.proofs.Codec.{time-at, encode-later, encode-freed}
 use Rattle.token_store.proofs.Fits.{fit-size}
@@ -42,10 +42,11 @@ use Rattle.protocol.specs.declared.Decision.{Decision}
 use Rattle.protocol.specs.declared.Decision.the-variants.{Refuse}
 use Rattle.protocol.specs.Answers.{isGrant}
 use Rattle.protocol.specs.Authorization.{queryClient, locationText}
+use Rattle.protocol.specs.Revocation.{revocationReply}
 use Rattle.protocol.specs.Granting.{firstHandle, shownSlot, decisionOn}
-use Rattle.protocol.specs.Outcomes.{unfitReasons, Handed, Endpoint, Outcome, admit, outcomeBy, outcome, serveAuthorization, authorizationEndpoint, replyText, serveToken, tokenEndpoint, checkEndpoint, clockAlone}
+use Rattle.protocol.specs.Outcomes.{unfitReasons, Handed, Endpoint, Outcome, admit, outcomeBy, outcome, serveAuthorization, authorizationEndpoint, replyText, serveToken, tokenEndpoint, withoutRandom, serveRevocation, revocationEndpoint, checkEndpoint, clockAlone}
 use Rattle.protocol.proofs.Reasons.{stop, pass, first-counts, grant-every}
-use Rattle.history.specs.Calls.{Call, authorization, token, check, handedTo, WellTyped}
+use Rattle.history.specs.Calls.{Call, authorization, token, revocation, check, handedTo, WellTyped}
 use Rattle.history.specs.Server.{Answer, authorizationAnswer, tokenAnswer, checkAnswer, answering, outcomeOf, isUnfit, isGranted, lengthOf}
 use Rattle.history.specs.Contents.{valueOf, codeShown}
 use Rattle.history.specs.Slots.{holdsTokenFrom}
@@ -65,6 +66,7 @@ module _ (registry store : List ℕ) where
   unfolding unfitTo buffersUnfit
   same-buffers (authorization query decision farm handed) = refl
   same-buffers (token header body handed) = refl
+  same-buffers (revocation header body clock output) = refl
   same-buffers (check presented clock) = refl
 
   module _ (c : Call) where
@@ -107,6 +109,7 @@ module _ (registry store : List ℕ) where
   unfolding handedTo unfitTo unfitAnswer outcomeOf
   unfit-done (authorization query decision farm handed) i e = refused-at authorizationAnswer (authorizationEndpoint query decision farm) handed i e
   unfit-done (token header body handed) i e = refused-at tokenAnswer (tokenEndpoint header body) handed i e
+  unfit-done (revocation header body clock output) i e = refused-at tokenAnswer (revocationEndpoint header body) (withoutRandom clock output) i e
   unfit-done (check presented clock) i e = refused-at checkAnswer (checkEndpoint presented) (clockAlone clock) i e
 
 -- ---- later refusals
@@ -126,11 +129,12 @@ module _ (clients : List Client) (g : Store) where
       → let text = refusalText clients c r in
       let o = outcomeOn clients g c in
       (o .answer ≡ refusalAnswer c r (length text)) × (o .output ≡ sets (handedTo c .output) 0 text)
-  unfolding handedTo outcomeOn serveAuthorization serveToken decisionIn refusalText refusalAnswer replyText isGrant
+  unfolding handedTo outcomeOn serveAuthorization serveToken serveRevocation decisionIn refusalText refusalAnswer replyText revocationReply isGrant
   refused-on (authorization query decision farm handed) r e =
       let redirect = clientAt clients (queryClient clients query) .redirect in
       rw (e, handle-unused redirect (formValue query (bytes "state")) (firstHandle (handed .random)) r) (refl, refl)
   refused-on (token header body handed) r e = rw e (refl, refl)
+  refused-on (revocation header body clock output) r e = rw e (refl, refl)
   refused-on (check presented clock) r e = absurd (true≢false (ap isGrant e))
 
 -- ---- a code that is shown twice
@@ -168,14 +172,16 @@ module _ (clients : List Client) (store : List ℕ) where
         ← (time-at store),
         spent-live (callTime (decode store) (handed .clock)) (decode store .slots) p,
       )
+  twice-again (revocation header body clock output) = refl
   twice-again (check presented clock) = refl
 
   -- what is decided is what is answered, of a call that can be refused
   twice-decided : (c : Call) → isShownTwice clients store c ≡ true → decisionOn (planOn clients (decode store) c) ≡ Refuse (Token InvalidGrant)
       → decisionIn (outcomeOn clients (decode store) c .answer) ≡ Refuse (Token InvalidGrant)
-  unfolding outcomeOn serveAuthorization serveToken decisionIn asked handedTo isShownTwice
+  unfolding outcomeOn serveAuthorization serveToken serveRevocation decisionIn asked handedTo isShownTwice
   twice-decided (authorization query decision farm handed) twice e = e
   twice-decided (token header body handed) twice e = e
+  twice-decided (revocation header body clock output) twice e = e
   twice-decided (check presented clock) twice e = absurd (true≢false (sym twice))
 
 -- ---- the store that is left
@@ -224,7 +230,7 @@ module _ (registry : List ℕ) (bytes : Bytes registry) (store : List ℕ) (stor
   -- the store that a refusal leaves, where a code is shown again and where not
   abbrev LeavesAs : Bool → Type 0
   LeavesAs again =
-      encode (record { time = t; slots = cond again (withoutTokens (readHandle (codeShown c) .bytes) slots) slots })
+      encode (record { time = t; slots = cond again (withoutTokens soughtToken (readHandle (codeShown c) .bytes) slots) slots })
       ≡ withClock (handedTo c .clock) (cond again (withoutTokensFrom (codeShown c) store) store)
 
   leaves-as : length store ≡ storeSize → (again : Bool) → isAgain clients t slots c ≡ again → LeavesAs again
@@ -232,11 +238,11 @@ module _ (registry : List ℕ) (bytes : Bytes registry) (store : List ℕ) (stor
   leaves-as size true e =
       let handle = readHandle (codeShown c) .bytes in
       let front : length (takeFirst timeSize store) ≡ timeSize = length-take-le timeSize store (omega arith) in
-      let same-test : (slot : List ℕ) → comesFrom handle (decodeSlot slot) ≡ holdsTokenFrom (codeShown c) slot =
+      let same-test : (slot : List ℕ) → comesFrom soughtToken handle (decodeSlot slot) ≡ holdsTokenFrom (codeShown c) slot =
       λ slot. ap (λ (v : Bool). isToken (decodeSlot slot) && (v && same handle (originOf (decodeSlot slot)))) (sym (again-valid clients t slots c e))
       in
       let freed =
-      encode-freed store size stored (comesFrom handle)
+      encode-freed store size stored (comesFrom soughtToken handle)
       ∙ ap (λ (k : List ℕ → Bool). concat (tabulate slotCount (λ i. cond (k (slotBytes store i)) (replicate slotSize 0) (slotBytes store i)))) (fun-ext same-test)
       in
       rw (freed, time-at store, take-at (takeFirst timeSize store) _ timeSize front, drop-at (takeFirst timeSize store) _ timeSize front)

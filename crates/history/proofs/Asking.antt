@@ -26,7 +26,7 @@ use Rattle.protocol.specs.declared.Decision.the-variants.{Grant, Refuse}
 use Rattle.protocol.specs.declared.ExchangeRequest.{ExchangeRequest}
 use Rattle.protocol.specs.declared.RefreshRequest.{RefreshRequest}
 use Rattle.protocol.specs.declared.CredentialsRequest.{CredentialsRequest}
-use Rattle.protocol.specs.declared.Request.the-variants.{Exchange, Refresh, Credentials}
+use Rattle.protocol.specs.declared.Request.the-variants.{Exchange, Refresh, Credentials, Revocation}
 use Rattle.protocol.specs.declared.Reading.{Reading}
 use Rattle.protocol.specs.Answers.{isGrant}
 use Rattle.protocol.specs.Refusals.{when, firstOf}
@@ -73,6 +73,13 @@ module _ (clients : List Client) (header body : List ℕ) where
 
   abbrev pub credentialsReading : Reading
   credentialsReading = presentingNone (Credentials credentialsAsked)
+
+  abbrev pub revocationReading : Reading
+  revocationReading = record {
+    request = Revocation (record { client = callClient clients header body });
+    presented = readHandle (valueOf body (bytes "token"));
+    challenge = noChallenge;
+  }
 
   pub data ReadAs (reading : Reading) : Type 0 where
     refusedAs : (r : Refusal) → reading ≡ refusedReading r → ReadAs reading

@@ -40,14 +40,15 @@ use Rattle.protocol.specs.Requests.{askedBy, scopeAsked, fits, scopeGiven, unle
 use Rattle.protocol.specs.Authorization.{challengeGiven, isBadChallenge, isBadQuery, queryClient, isBadClient, isBadRedirect, isSoundState, isBadState, isInvalidRequest, isOtherType, isInvalidScope, codeAsked, pageReasons, redirectReasons, readAuthorization, separator, stateText, location, codeParameter, errorParameter, locationText}
 use Rattle.protocol.specs.ClientForms.{isInvalidForm, lowerCase, sameAnyCase, credentials, isBadHeader, headerId, headerSecret, presentedId, presentedSecret, isUnclearId, isImpostor, callClient, isInvalidClient, formReasons}
 use Rattle.protocol.specs.Token.{challengeAnswered, isSoundVerifier, readExchange, readRefresh, readCredentials, readGrant, readToken, errorReply, refusalReply, tokenReply, refreshMember}
-use Rattle.protocol.specs.Granting.{refusedPlan, codePlan, exchangePlan, refreshPlan, credentialsPlan, planFor, planOf, decisionOn, slotsBy, checkSlots}
-use Rattle.protocol.specs.Outcomes.{Handed, serveAuthorization, replyText, serveToken, serveCheck}
+use Rattle.protocol.specs.Revocation.{readRevocation, revocationReply}
+use Rattle.protocol.specs.Granting.{refusedPlan, codePlan, exchangePlan, refreshPlan, credentialsPlan, revocationPlan, planFor, planOf, decisionOn, slotsBy, checkSlots}
+use Rattle.protocol.specs.Outcomes.{Handed, serveAuthorization, replyText, serveToken, serveRevocation, serveCheck}
 use Rattle.protocol.proofs.Cases.{challenge, challenging}
 use Rattle.protocol.proofs.Starred.{countUp, rfcQuery}
-use Rattle.history.specs.Calls.{Call, authorization, token, check, handedTo, Result}
-use Rattle.history.specs.Contents.{Sort, code, access, refresh, Issue, noIssue, isExchange, isRefresh, isCredentials, noneBeyond, isWithinGranted, namesOr, askedOr, idIn, isAdmitted, codeIssue, exchangeIssues, refreshIssues, ownIssue, issuedBy, isSpentBy, asSpent, isSecondShowing, codeShown, isWithdrawnBy, standingAfter, Contents, nothingYet, withEvent, withEvents, twenties}
+use Rattle.history.specs.Calls.{Call, authorization, token, revocation, check, handedTo, Result}
+use Rattle.history.specs.Contents.{Sort, code, access, refresh, Issue, noIssue, isExchange, isRefresh, isCredentials, noneBeyond, isWithinGranted, namesOr, askedOr, idIn, isAdmitted, isAdmittedToRevoke, codeIssue, exchangeIssues, refreshIssues, ownIssue, issuedBy, isSpentBy, asSpent, isSecondShowing, codeShown, isWithdrawnBy, isRevokedBy, standingAfter, Contents, nothingYet, withEvent, withEvents, twenties}
 use Rattle.history.specs.Slots.{slotsInAll, holdsTokenFrom}
-use Rattle.history.specs.Claim.{isRepeatedBy, isUnreserved, isAnsweredBy, verifies, isVerifierFor, mayExchange, mayRefresh, mayHaveOwn, mayPass}
+use Rattle.history.specs.Claim.{isRepeatedBy, isUnreserved, isAnsweredBy, verifies, isVerifierFor, mayExchange, mayRefresh, mayHaveOwn, mayRevoke, isCleared, mayPass}
 use Rattle.history.specs.Server.{isUnfitRefusal, isUnfitDecision, isUnfitCheck, isUnfit, isGranted, lengthOf, isLiveCheck, namedBy, isPassed, namedIn}
 use Rattle.history.proofs.AnyCall.{outcomeOn, asked, unfitTo}
 use Rattle.history.proofs.CallsOnRecords.{resultOn, leftByAll, eventsOn, isFitting}
@@ -191,6 +192,32 @@ strangers = showingBy [] (byBarnapp codeText) 1599
 unfoldable pub impostors : List Call
 impostors = showingBy [] (repeating codeText ++ bytes "&client_id=s6BhdRkqt3") 1599
 
+-- behind the day a token is revoked: the first client's refresh token, with a hint that is wrong; one of its access tokens; the refresh token
+-- by the other client, by one who has not the secret, and at its expiry; a code
+unfoldable pub revokeAt : List ℕ → List ℕ → ℕ → Call
+revokeAt h b clock = revocation h b clock (replicate 1024 0)
+
+unfoldable pub revoking : List ℕ → List ℕ
+revoking text = bytes "token=" ++ text
+
+unfoldable pub barnRevoking : List ℕ → List ℕ
+barnRevoking text = revoking text ++ bytes "&client_id=barnapp"
+
+unfoldable pub farewell : List Call
+farewell = day ++ revokeAt header (revoking refreshText ++ bytes "&token_type_hint=access_token") 1550 ∷ []
+
+unfoldable pub oneLess : List Call
+oneLess = day ++ revokeAt header (revoking accessText) 1550 ∷ []
+
+unfoldable pub nothingRevoked : List Call
+nothingRevoked =
+    day
+    ++ revokeAt [] (barnRevoking refreshText) 1550
+    ∷ revokeAt [] (revoking refreshText ++ bytes "&client_id=s6BhdRkqt3") 1550
+    ∷ revokeAt header (revoking lessText) 1550
+    ∷ revocation header (revoking refreshText) 1550 (replicate 1023 0)  -- an output too short
+    ∷ []
+
 -- the first client asks for itself, for its whole set and for less; one that asks for more, and a public one, are refused
 unfoldable pub pumps : List Call
 pumps =
@@ -281,6 +308,43 @@ cases =
           ∷ no (check refreshText 1510)  -- a refresh token is no access token
           ∷ no (asking header (bytes "grant_type=authorization_code") 1510)  -- no code
           ∷ no (asking header (bytes "grant_type=refresh_token") 1510)  -- no refresh token
+          ∷ yes (revokeAt header (revoking refreshText) 1510)
+          ∷ yes (revokeAt codedHeader (revoking accessText) 1510)
+          ∷ yes (revokeAt header (revoking (bytes "lost")) 1510)  -- "unknown"
+          ∷ yes (revokeAt [] (barnRevoking lessText) 1510)  -- another client's code is no token
+          ∷ no (revokeAt [] (barnRevoking refreshText) 1510)  -- "a live token of another client"
+          ∷ no (revokeAt [] (barnRevoking accessText) 5099)
+          ∷ yes (revokeAt [] (barnRevoking accessText) 5100)  -- "run-out"
+          ∷ no (revokeAt [] (revoking refreshText ++ bytes "&client_id=s6BhdRkqt3") 1510)  -- no secret
+          ∷ no (revokeAt header [] 1510)  -- no token
+          ∷ [];
+    }
+    ∷ record {
+      calls = farewell;
+      judged =
+          no (check accessText 1551)
+          ∷ no (check accessText 0)  -- the clock goes back
+          ∷ no (check againText 1551)  -- by a refresh
+          ∷ no (asking header (refreshFor refreshText []) 1551)
+          ∷ yes (asking header (repeating lessText) 1551)  -- another code
+          ∷ yes (revokeAt header (revoking refreshText) 1551)  -- once more
+          ∷ yes (revokeAt [] (barnRevoking refreshText) 1551)  -- which is unknown now
+          ∷ [];
+    }
+    ∷ record {
+      calls = oneLess;
+      judged =
+          no (check accessText 1551)
+          ∷ yes (check againText 1551)  -- "an access token is cleared", and no other
+          ∷ yes (asking header (refreshFor refreshText []) 1551)
+          ∷ [];
+    }
+    ∷ record {
+      calls = nothingRevoked;
+      judged =
+          yes (check accessText 1551)
+          ∷ yes (asking header (refreshFor refreshText []) 1551)
+          ∷ yes (asking header (repeating lessText) 1551)
           ∷ [];
     }
     ∷ record {
@@ -339,6 +403,7 @@ cases =
 unfoldable pub yields : Call → Result → Bool
 yields (authorization query decision farm handed) r = r .granted
 yields (token h b handed) r = r .granted
+yields (revocation h b clock output) r = r .granted
 yields (check presented clock) r = r .passed
 
 -- what the claim asks of what the calls contain
@@ -348,17 +413,21 @@ may c (token h b handed) =
     let t = max (handed .clock) (c .highest) in
     cond (isExchange b) (mayExchange sampleClients t (c .standing) h b)
     (cond (isRefresh b) (mayRefresh sampleClients t (c .standing) h b) (mayHaveOwn sampleClients t (c .standing) h b))
+may c (revocation h b clock output) =
+    isAdmittedToRevoke sampleClients h b && mayRevoke sampleClients (max clock (c .highest)) (c .standing) h b
 may c (check presented clock) = mayPass (max clock (c .highest)) (c .standing) presented
 
 -- the call is one of those that the claim speaks of
 unfoldable pub isTyped : Call → Bool
 isTyped (authorization query decision farm handed) = ltb farm (2 ^ 32) && every (λ b. ltb b 256) (handed .random)
 isTyped (token h b handed) = every (λ b. ltb b 256) (handed .random)
+isTyped (revocation h b clock output) = true
 isTyped (check presented clock) = true
 
 unfoldable pub isAsked : Call → Bool
 isAsked (authorization query decision farm handed) = false
 isAsked (token h b handed) = isAdmitted sampleClients h b && (isExchange b || (isRefresh b || isCredentials b))
+isAsked (revocation h b clock output) = true
 isAsked (check presented clock) = true
 
 unfoldable pub isJudged : Contents → Call → Bool
@@ -474,6 +543,14 @@ inLeak = record {
   randoms = countUp 20 0x48 ∷ countUp 20 0x5C ∷ inDay .randoms;
 }
 
+-- and behind the revocation of the refresh token neither it nor the access tokens from that code
+unfoldable pub inFarewell : Contents
+inFarewell = record {
+  highest = 1550;
+  standing = codeUntil lessText 10 2106 ∷ barnCode ∷ asSpent (codeUntil codeText 11 1600) ∷ [];
+  randoms = inDay .randoms;
+}
+
 -- the first client's tokens for itself
 unfoldable pub ownUntil : List ℕ → ℕ → ℕ → Issue
 ownUntil text scope expiry =
@@ -494,6 +571,22 @@ inPumps = record {
       ∷ countUp 20 0xB4
       ∷ [];
 }
+
+-- the visit's code is exchanged at 1500
+unfoldable pub exchangeVisit : List Call
+exchangeVisit = visit ++ exchangeAt 1500 ∷ []
+
+unfoldable pub inExchangeVisit : Contents
+inExchangeVisit = record {
+  highest = 1500;
+  standing =
+      tokenUntil refresh refreshText 11 2593500 ∷ tokenUntil access accessText 11 5100 ∷ asSpent (codeUntil codeText 11 1600) ∷ [];
+  randoms = countUp 20 0x20 ∷ countUp 20 0x34 ∷ countUp 20 0 ∷ [];
+}
+
+-- and the refresh token is revoked at 1505
+unfoldable pub gone : List Call
+gone = exchangeVisit ++ revokeAt header (revoking refreshText) 1505 ∷ []
 
 -- ---- verifiers
 
@@ -567,11 +660,19 @@ pub record Computed : Type 0 where
   pub day-contains : containedIn day ≡ inDay
   pub evening-contains : containedIn evening ≡ inEvening
   pub leak-contains : containedIn leak ≡ inLeak
+  pub farewell-contains : containedIn farewell ≡ inFarewell
+  pub exchange-contains : containedIn exchangeVisit ≡ inExchangeVisit
+  pub exchange-issues : issuedBy sampleClients 1500 (inVisit .standing) (exchangeAt 1500) (resultOn sampleClients (leftIn visit) (exchangeAt 1500))
+      ≡ tokenUntil refresh refreshText 11 2593500 ∷ tokenUntil access accessText 11 5100 ∷ []
   pub pumps-contain : containedIn pumps ≡ inPumps
   pub visit-typed : every isTyped visit ≡ true
   pub day-typed : every isTyped day ≡ true
   pub evening-typed : every isTyped evening ≡ true
   pub leak-typed : every isTyped leak ≡ true
+  pub farewell-typed : every isTyped farewell ≡ true
+  pub exchange-typed : every isTyped exchangeVisit ≡ true
+  pub gone-typed : every isTyped gone ≡ true
+  pub gone-judged : isJudged (containedIn gone) (check accessText 1000) ≡ true
   pub pumps-typed : every isTyped pumps ≡ true
   -- why the claim asks that random bytes never come twice: an exchange in time that brings those of its code gets 500
   pub clash : let again = tokenAt header (repeating codeText) 1510 0 in
@@ -592,6 +693,11 @@ pub record Computed : Type 0 where
   -- so that these hold tokens from it, and it does not
   pub token-held : holdsTokenFrom codeText (part (encodeStore (leftIn day)) (8 + 67) 67) ≡ true
   pub none-held : holdsTokenFrom codeText (part (encodeStore (leftIn day)) 8 67) ≡ false
+  -- with the refresh token, the second of them, go all three, neither their code nor another; with an access token it alone
+  pub goes-with : map (λ i. isCleared sampleClients 1510 (inDay .standing) header (revoking refreshText) (part (encodeStore (leftIn day)) (8 + i * 67) 67)) (0 ∷ 1 ∷ 2 ∷ 3 ∷ 4 ∷ 5 ∷ [])
+      ≡ false ∷ true ∷ true ∷ true ∷ false ∷ false ∷ []
+  pub goes-alone : map (λ i. isCleared sampleClients 1510 (inDay .standing) header (revoking accessText) (part (encodeStore (leftIn day)) (8 + i * 67) 67)) (0 ∷ 1 ∷ 2 ∷ 3 ∷ 4 ∷ 5 ∷ [])
+      ≡ false ∷ true ∷ false ∷ false ∷ false ∷ false ∷ []
   -- two slots to exchange, one to refresh or for a client itself
   pub room-asked : mayBeside 2 ++ mayBeside 1 ++ mayBeside 0
       ≡ true ∷ true ∷ true ∷ false ∷ true ∷ true ∷ false ∷ false ∷ false ∷ []
@@ -611,7 +717,7 @@ pub record Computed : Type 0 where
       ≡ true ∷ false ∷ false ∷ true ∷ []
 
 pub computed : Computed
-unfolding isAnsweredBy verifies isVerifierFor challengeGiven isBadChallenge readDigest isDigestText challengeAnswered isSoundVerifier base64Text digit64 challengeText verifier otherVerifier barnTry verifying barnVisit guesses barnLeak challengedVisit rotr ch maj bigSigma smallSigma roundConstants initialHash padding paddedMessage blockWords scheduleWord nextWord extended schedule firstSum secondSum round rounds added compressed hashed wordsBytes stateBytes digest showingBy leak lateShowing strangers impostors inLeak mayBesideSpent ownFor ownText lessOwnText pumps ownUntil inPumps encodeStore encodeSlot concat bigEndianBytes decodeSlot cut bigEndianFrom redirect codeUntil tokenUntil barnCode inVisit inDay barnBody evening barnToken barnAccess inEvening beside mayBeside slotUntil decidedBeside doneBeside yields may isTyped isAsked isJudged leftIn containedIn claimAgrees agreesOn agrees cases day visit night handedAt authorizeAt header exchangeOf repeating byBarnapp tokenAt codeText accessText refreshText exchangeAt refreshFor barnQuery lessQuery barnText againText lessText rfcQuery handedTo asked outcomeOn unfitTo leftByAll eventsOn isFitting isUnfitRefusal isUnfitDecision isUnfitCheck isUnfit isGranted lengthOf isLiveCheck namedBy isPassed namedIn noIssue noneBeyond isWithinGranted namesOr askedOr codeIssue exchangeIssues refreshIssues ownIssue issuedBy isSpentBy isSecondShowing codeShown isWithdrawnBy standingAfter withEvent withEvents twenties idIn isAdmitted isRepeatedBy mayExchange mayRefresh mayHaveOwn mayPass distinct keep count any firstOr replaceFirst replaceAll freeSlot fresh every same indexOf splitOn grow hexText hexDigit hexValue readHandle isHandleText unhex isBase64 base64Bytes groupBytes soundGroup sextet none decodeAfter firstByte extra isEscape plain wellFormed sound encode encodeByte isWellFormedForm pieceName pieceValue gives add valueIn formValue names bitFrom bitOf union readScope chosen spaced scopeText indexWhere sampleClients sampleConfidential samplePublic isGrant wordText isMissing isRepeated onlyValue isOnce askedBy scopeAsked fits scopeGiven isBadQuery queryClient isBadClient isBadRedirect isSoundState isBadState isInvalidRequest isOtherType isInvalidScope codeAsked pageReasons redirectReasons readAuthorization separator stateText location codeParameter errorParameter locationText isInvalidForm lowerCase sameAnyCase credentials isBadHeader headerId headerSecret presentedId presentedSecret isUnclearId isImpostor callClient isInvalidClient formReasons readExchange readRefresh readCredentials readGrant readToken errorReply refusalReply tokenReply refreshMember firstOf unlessRefused refusedPlan codePlan exchangePlan refreshPlan credentialsPlan planFor slotsBy checkSlots serveAuthorization replyText serveToken serveCheck
+unfolding exchangeVisit inExchangeVisit gone revokeAt revoking barnRevoking farewell oneLess nothingRevoked inFarewell isAnsweredBy verifies isVerifierFor challengeGiven isBadChallenge readDigest isDigestText challengeAnswered isSoundVerifier base64Text digit64 challengeText verifier otherVerifier barnTry verifying barnVisit guesses barnLeak challengedVisit rotr ch maj bigSigma smallSigma roundConstants initialHash padding paddedMessage blockWords scheduleWord nextWord extended schedule firstSum secondSum round rounds added compressed hashed wordsBytes stateBytes digest showingBy leak lateShowing strangers impostors inLeak mayBesideSpent ownFor ownText lessOwnText pumps ownUntil inPumps encodeStore encodeSlot concat bigEndianBytes decodeSlot cut bigEndianFrom redirect codeUntil tokenUntil barnCode inVisit inDay barnBody evening barnToken barnAccess inEvening beside mayBeside slotUntil decidedBeside doneBeside yields may isTyped isAsked isJudged leftIn containedIn claimAgrees agreesOn agrees cases day visit night handedAt authorizeAt header exchangeOf repeating byBarnapp tokenAt codeText accessText refreshText exchangeAt refreshFor barnQuery lessQuery barnText againText lessText rfcQuery handedTo asked outcomeOn unfitTo leftByAll eventsOn isFitting isUnfitRefusal isUnfitDecision isUnfitCheck isUnfit isGranted lengthOf isLiveCheck namedBy isPassed namedIn noIssue noneBeyond isWithinGranted namesOr askedOr codeIssue exchangeIssues refreshIssues ownIssue issuedBy isSpentBy isSecondShowing codeShown isWithdrawnBy isRevokedBy standingAfter withEvent withEvents twenties idIn isAdmitted isAdmittedToRevoke isRepeatedBy mayExchange mayRefresh mayHaveOwn mayRevoke mayPass distinct keep count any firstOr replaceFirst replaceAll freeSlot fresh every same indexOf splitOn grow hexText hexDigit hexValue readHandle isHandleText unhex isBase64 base64Bytes groupBytes soundGroup sextet none decodeAfter firstByte extra isEscape plain wellFormed sound encode encodeByte isWellFormedForm pieceName pieceValue gives add valueIn formValue names bitFrom bitOf union readScope chosen spaced scopeText indexWhere sampleClients sampleConfidential samplePublic isGrant wordText isMissing isRepeated onlyValue isOnce askedBy scopeAsked fits scopeGiven isBadQuery queryClient isBadClient isBadRedirect isSoundState isBadState isInvalidRequest isOtherType isInvalidScope codeAsked pageReasons redirectReasons readAuthorization separator stateText location codeParameter errorParameter locationText isInvalidForm lowerCase sameAnyCase credentials isBadHeader headerId headerSecret presentedId presentedSecret isUnclearId isImpostor callClient isInvalidClient formReasons readExchange readRefresh readCredentials readGrant readToken errorReply refusalReply tokenReply refreshMember firstOf unlessRefused refusedPlan codePlan exchangePlan refreshPlan credentialsPlan readRevocation revocationReply revocationPlan planFor slotsBy checkSlots serveAuthorization replyText serveToken serveRevocation serveCheck
 computed = record {
   cases-agree = refl;
   visit-contains = refl;
@@ -620,11 +726,18 @@ computed = record {
   day-contains = refl;
   evening-contains = refl;
   leak-contains = refl;
+  farewell-contains = refl;
+  exchange-contains = refl;
+  exchange-issues = refl;
   pumps-contain = refl;
   visit-typed = refl;
   day-typed = refl;
   evening-typed = refl;
   leak-typed = refl;
+  farewell-typed = refl;
+  exchange-typed = refl;
+  gone-typed = refl;
+  gone-judged = refl;
   pumps-typed = refl;
   clash = refl;
   code-granted = refl;
@@ -635,6 +748,8 @@ computed = record {
   tokens-from = refl;
   token-held = refl;
   none-held = refl;
+  goes-with = refl;
+  goes-alone = refl;
   room-asked = refl;
   room-found = refl;
   room-of-spent = refl;

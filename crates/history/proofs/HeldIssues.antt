@@ -26,11 +26,11 @@ use Rattle.client_registry.specs.Lookup.{clientAt}
 use Rattle.protocol.specs.Granting.{isUnverified}
 use Rattle.protocol.specs.Token.{challengeAnswered}
 use Rattle.token_store.specs.Layout.{handleSize}
-use Rattle.token_store.specs.Store.{codeKind, kindAccess, kindRefresh, kindSpent, noLink, linkTo, originOf, spentCode, isUsed, isToken, isBoundCode, isSought, isLive, shows, soughtKey, comesFrom}
+use Rattle.token_store.specs.Store.{codeKind, kindAccess, kindRefresh, kindSpent, noLink, linkTo, originOf, spentCode, isUsed, isBoundCode, isSought, isLive, shows, soughtKey, comesFrom}
 use Rattle.token_store.specs.declared.Slot.{Slot}
 use Rattle.token_store.specs.declared.Sought.{Sought}
-use Rattle.token_store.specs.declared.Sought.the-variants.{Code, Spent, Access, Refresh}
-use Rattle.history.specs.Contents.{Sort, code, spent, access, refresh, Issue, isA, isLiveAt, isOf, isTokenFrom}
+use Rattle.token_store.specs.declared.Sought.the-variants.{Code, Spent, Access, Refresh, Token}
+use Rattle.history.specs.Contents.{Sort, code, spent, access, refresh, Issue, isA, isLiveAt, isToken, isOf, isTokenFrom}
 use Rattle.history.specs.Claim.{isRepeatedBy, isAnsweredBy}
 use Rattle.history.proofs.Challenges.{Digest, noDigest, answered-is}
 
@@ -102,6 +102,11 @@ sought spent = Spent
 sought access = Access
 sought refresh = Refresh
 
+-- two tests and what each asks besides, where the second asks it
+pub and-agree : {a b x y : Bool} → a ≡ b → (b ≡ true → x ≡ y) → (a && x) ≡ (b && y)
+and-agree {b = true} e same = ap₂ _&&_ e (same refl)
+and-agree {b = false} e same = rw e
+
 -- ---- sort by sort
 
 -- with another sort, bound and challenged
@@ -144,9 +149,9 @@ pub used : (e : Held) → isUsed (asSlot e) ≡ true
 used e = by-sort (λ x. isUsed (asSlot x) ≡ true) e refl refl refl refl refl refl refl
 
 -- a token's origin is shown
-pub token-origin : (e : Held) → isToken (asSlot e) ≡ true → originOf (asSlot e) ≡ e .origin .octets
+pub token-origin : (e : Held) → isSought Token (asSlot e) ≡ true → originOf (asSlot e) ≡ e .origin .octets
 token-origin e =
-    by-sort (λ x. isToken (asSlot x) ≡ true → originOf (asSlot x) ≡ x .origin .octets) e none none none none none
+    by-sort (λ x. isSought Token (asSlot x) ≡ true → originOf (asSlot x) ≡ x .origin .octets) e none none none none none
     (λ k. linked) (λ k. linked)
   where
     none : {A : Type 0} → false ≡ true → A
@@ -164,7 +169,7 @@ module _ (clients : List Client) where
   pub issue-live : (t : ℕ) (e : Held) → isLiveAt t (asIssue clients e) ≡ isLive t (asSlot e)
   issue-live t e = ap (λ (b : Bool). b && ltb t (e .expiry)) (sym (used e))
 
-  issue-sort : (sort : Sort) (e : Held) → isA sort (asIssue clients e) ≡ isSought (sought sort) (asSlot e)
+  pub issue-sort : (sort : Sort) (e : Held) → isA sort (asIssue clients e) ≡ isSought (sought sort) (asSlot e)
   issue-sort code e = by-sort (λ x. isA code (asIssue clients x) ≡ isSought Code (asSlot x)) e refl refl refl refl refl refl refl
   issue-sort spent e = by-sort (λ x. isA spent (asIssue clients x) ≡ isSought Spent (asSlot x)) e refl refl refl refl refl refl refl
   issue-sort access e = by-sort (λ x. isA access (asIssue clients x) ≡ isSought Access (asSlot x)) e refl refl refl refl refl refl refl
@@ -177,19 +182,30 @@ module _ (clients : List Client) where
       → (isA sort (asIssue clients e) && isOf text (asIssue clients e)) ≡ soughtKey (sought sort) (readHandle text) (asSlot e)
   issue-key sort text e = ap₂ _&&_ (issue-sort sort e) (issue-of text e)
 
-  -- a token from the code of a text
-  pub issue-from : (text : List ℕ) (e : Held) → readHandle text .valid ≡ true
-      → isTokenFrom text (asIssue clients e) ≡ comesFrom (readHandle text .bytes) (asSlot e)
-  issue-from text e valid = by-sort From e refl refl refl refl refl (token access refl) (token refresh refl)
-    where
-      From : Held → Type 0
-      From x = isTokenFrom text (asIssue clients x) ≡ comesFrom (readHandle text .bytes) (asSlot x)
+  -- a token of either sort
+  pub issue-token : (e : Held) → isToken (asIssue clients e) ≡ isSought Token (asSlot e)
+  issue-token e = ap₂ _||_ (issue-sort access e) (issue-sort refresh e)
 
-      token : (sort : Sort) → let s = asSlot (turned e sort (e .bound) (e .challenged)) in
-          isToken s ≡ true → same text (hexText (e .origin .octets)) ≡ same (readHandle text .bytes) (originOf s)
-      token sort is =
-          same-handle text (e .origin .octets) (e .origin .size) (e .origin .small)
-          ∙ rw valid (ap (same (readHandle text .bytes)) (sym (token-origin (turned e sort (e .bound) (e .challenged)) is)))
+  pub token-key : (text : List ℕ) (e : Held)
+      → (isToken (asIssue clients e) && isOf text (asIssue clients e)) ≡ soughtKey Token (readHandle text) (asSlot e)
+  token-key text e = ap₂ _&&_ (issue-token e) (issue-of text e)
+
+  -- the origin of a token is the code of a text
+  origin-of : (text : List ℕ) (e : Held) → readHandle text .valid ≡ true → isSought Token (asSlot e) ≡ true
+      → same text (asIssue clients e .origin) ≡ same (readHandle text .bytes) (originOf (asSlot e))
+  origin-of text e valid is =
+      same-handle text (e .origin .octets) (e .origin .size) (e .origin .small)
+      ∙ rw valid (ap (same (readHandle text .bytes)) (sym (token-origin e is)))
+
+  -- a token from the code of a text; and an access token
+  pub issue-from : (text : List ℕ) (e : Held) → readHandle text .valid ≡ true
+      → isTokenFrom text (asIssue clients e) ≡ comesFrom Token (readHandle text .bytes) (asSlot e)
+  issue-from text e valid = and-agree (issue-token e) (origin-of text e valid)
+
+  pub access-from : (text : List ℕ) (e : Held) → readHandle text .valid ≡ true
+      → (isA access (asIssue clients e) && same text (asIssue clients e .origin)) ≡ comesFrom Access (readHandle text .bytes) (asSlot e)
+  access-from text e valid =
+      and-agree (issue-sort access e) (λ is. origin-of text e valid (ap (λ (b : Bool). b || isSought Refresh (asSlot e)) is))
 
   -- for client n, an address that was given is repeated where the client's is
   given-again : (n : ℕ) (given : Value) (e : Held) (bound : Bool)

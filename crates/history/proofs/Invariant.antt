@@ -4,11 +4,11 @@
 -- what a slot holds are each that law at one test; time passes by putting the later liveness into the test; and a change of one
 -- slot is arithmetic on counts.
 --
--- In order: the invariant; a code that is spent; what keeps the invariant (time, more random bytes, an issue, what is withdrawn, what is
+-- In order: a look-up; the invariant; a code that is spent; what keeps the invariant (time, more random bytes, an issue, what is withdrawn, what is
 -- spent), and the room that is left; what it says of a look-up by a handle that came once, and of a code that is shown again.
 -- Assumes nothing.
 use mathlib.Core.Path.{_≡_, refl, sym, ap, ap₂, _∙_}
-use mathlib.Core.Bool.{Bool, true, false, cond, not, _&&_, and-assoc, and-true, and-false}
+use mathlib.Core.Bool.{Bool, true, false, cond, not, _&&_, false≢true, and-assoc, and-true, and-false}
 use mathlib.Core.List.{List, [], _∷_, map, List·Memᴰ}
 use Prim.Native.Nat.{ℕ, _+_, _≤_}
 use native.Mathlib.Nat.{zero-add}
@@ -23,16 +23,38 @@ use Rattle.token_store.specs.Layout.{slotCount}
 use Rattle.octets.specs.Search.{bit, count, any, firstOr, replaceAll, keep}
 use Rattle.token_store.specs.Store.{issue, isUsed, isLive, isVacant, isSought, holds, shows, soughtKey, freeSlot, kindSpent, spentCode}
 use Rattle.token_store.specs.declared.Slot.{Slot}
+use Rattle.token_store.specs.declared.Sought.{Sought}
 use Rattle.token_store.specs.declared.Sought.the-variants.{Code, Spent}
-use Rattle.token_store.proofs.Slots.{sought-used, code-fails, key-holds}
+use Rattle.token_store.proofs.Slots.{free-dead, sought-used, code-fails, key-holds}
 use Rattle.protocol.specs.Granting.{shownSlot, withSpent, room, isOwn, isShownAgain}
-use Rattle.history.specs.Contents.{Sort, code, spent, NeverTwice}
-use Rattle.octets.proofs.Counting.{bit-some, bit-implies, count-ext, count-le, count-and, count-not, count-replicate, count-member, count-keep, any-count, any-some, firstOr-passes, count-firstOr, length-replaceFirst, count-replaceFirst, length-replaceAll, count-replaceAll, replaceFirst-map, count-map, count-apart}
-use Rattle.history.proofs.HeldIssues.{Held, asSlot, spentHeld, spent-slot, sought, noneHeld, used, tests-tell}
+use Rattle.history.specs.Contents.{NeverTwice}
+use Rattle.octets.proofs.Counting.{bit-some, bit-implies, count-ext, count-le, count-and, count-not, count-replicate, count-member, count-keep, any-count, any-some, firstOr-passes, firstOr-none, count-firstOr, length-replaceFirst, count-replaceFirst, length-replaceAll, count-replaceAll, replaceFirst-map, count-map, count-apart}
+use Rattle.history.proofs.HeldIssues.{Held, asSlot, spentHeld, spent-slot, noneHeld, used, tests-tell}
+
+-- ---- a look-up
+
+-- a text that is no handle's shows no slot
+pub none-shown : (q : Sought) (p : HandleText) (slots : List Slot) → p .valid ≡ false → shownSlot q p slots ≡ freeSlot
+unfolding firstOr
+none-shown q p [] e = refl
+none-shown q p (s ∷ slots) e =
+    let none : soughtKey q p s ≡ false = ap (λ (v : Bool). isSought q s && (v && same (p .bytes) (s .handle))) e ∙ and-false (isSought q s) in
+    ap (λ (b : Bool). cond b s (shownSlot q p slots)) none ∙ none-shown q p slots e
+
+-- what is found live was sought
+pub shown-key : (t : ℕ) (slots : List Slot) (q : Sought) (p : HandleText) → isLive t (shownSlot q p slots) ≡ true
+    → soughtKey q p (shownSlot q p slots) ≡ true
+shown-key t slots q p live = by (any (soughtKey q p) slots) refl
+  where
+    by : (b : Bool) → any (soughtKey q p) slots ≡ b → soughtKey q p (shownSlot q p slots) ≡ true
+    by true e = firstOr-passes (soughtKey q p) freeSlot slots e
+    by false e = absurd (false≢true (sym (free-dead t) ∙ ap (isLive t) (sym (firstOr-none (soughtKey q p) freeSlot slots e)) ∙ live))
 
 -- the thing issued that is presented, among those that stand
-abbrev pub originHeld : Sort → HandleText → List Held → Held
-originHeld sort p standing = firstOr noneHeld (λ e. soughtKey (sought sort) p (asSlot e)) standing
+abbrev pub originHeld : Sought → HandleText → List Held → Held
+originHeld q p standing = firstOr noneHeld (λ e. soughtKey q p (asSlot e)) standing
+
+-- ---- the invariant
 
 -- the slots at the time t, the issues that stand, and the random bytes of the calls seen
 pub record Invariant (t : ℕ) (slots : List Slot) (standing : List Held) (seen : List (List ℕ)) : Type 0 where
@@ -201,17 +223,17 @@ module _ {t : ℕ} {slots : List Slot} {standing : List Held} {seen : List (List
 
   -- ---- a look-up, where no random bytes came twice
 
-  module _ (once : NeverTwice seen) (sort : Sort) (p : HandleText) where
+  module _ (once : NeverTwice seen) (q : Sought) (p : HandleText) where
     abbrev key : Slot → Bool
-    key = soughtKey (sought sort) p
+    key = soughtKey q p
 
     abbrev slot : Slot
-    slot = shownSlot (sought sort) p slots
+    slot = shownSlot q p slots
 
     taken : (s : Slot) → bit (key s) ≤ bit (holds (p .bytes) s)
-    taken s = bit-implies (key s) (holds (p .bytes) s) (key-holds (sought sort) p s)
+    taken s = bit-implies (key s) (holds (p .bytes) s) (key-holds q p s)
 
-    one-slot : count key slots ≤ 1
+    pub one-slot : count key slots ≤ 1
     one-slot = omega (arith, count-le key (holds (p .bytes)) slots taken, v .inSlots (p .bytes), once (p .bytes))
 
     one-issue : count (λ e. key (asSlot e)) standing ≤ 1
@@ -245,7 +267,7 @@ module _ {t : ℕ} {slots : List Slot} {standing : List Held} {seen : List (List
         (λ g h. passes g (count-member (λ x. isLive t (asSlot x) && (key (asSlot x) && g (asSlot x))) e m (rw (live, here) h))))
 
     -- where the slot found is live, it holds the issue found
-    pub origin : isLive t slot ≡ true → asSlot (originHeld sort p standing) ≡ slot
+    pub origin : isLive t slot ≡ true → asSlot (originHeld q p standing) ≡ slot
     unfolding noneHeld
     origin live = sym (tests-tell slot (asSlot o) shown)
       where
@@ -268,7 +290,7 @@ module _ {t : ℕ} {slots : List Slot} {standing : List Held} {seen : List (List
   module _ (once : NeverTwice seen) (p : HandleText) where
     -- the one code that is found is spent
     each : withSpent p slots ≡ map (spendSlot p) slots
-    each = replaceFirst-map spentCode (soughtKey Code p) freeSlot slots (one-slot once code p)
+    each = replaceFirst-map spentCode (soughtKey Code p) freeSlot slots (one-slot once Code p)
 
     pub spent-kept : Invariant t (withSpent p slots) (map (spendHeld p) standing) seen
     spent-kept = rw each (invariant-spend p)
@@ -303,12 +325,12 @@ module _ {t : ℕ} {slots : List Slot} {standing : List Held} {seen : List (List
               (λ l. key-holds Spent p s (and-left (soughtKey Spent p s) (own s) (and-right (isLive t s) (soughtKey Spent p s && own s) l))))
 
       pub shown-again : isShownAgain t client p slots ≡ any (λ e. live (asSlot e)) standing
-      shown-again = by (isOwn t client (shownSlot Spent p slots)) refl ∙ sym (contained once spent p own)
+      shown-again = by (isOwn t client (shownSlot Spent p slots)) refl ∙ sym (contained once Spent p own)
         where
           by : (o : Bool) → isOwn t client (shownSlot Spent p slots) ≡ o → (not (any (soughtKey Code p) slots) && o) ≡ o
           by false e = and-false (not (any (soughtKey Code p) slots))
           by true e =
-              let one = v .bag (λ s. soughtKey Spent p s && own s) ∙ counted once spent p own ∙ ap bit e in
+              let one = v .bag (λ s. soughtKey Spent p s && own s) ∙ counted once Spent p own ∙ ap bit e in
               let few = count-apart (soughtKey Code p) live (holds (p .bytes)) slots apart in
               let none = any-count (soughtKey Code p) false slots (omega (arith, one, few, v .inSlots (p .bytes), once (p .bytes))) in
               rw none

@@ -1,13 +1,12 @@
--- What it is to stand, in the paper's words: the calls contain the issue, and no later call ended it, by exchanging the code or as a
--- second showing (`standing-means`); and that the
--- codes and tokens that our server issues, read from its answers, are the random bytes that it was handed (`random-code`,
--- `random-access`, `random-refresh`).
+-- What it is to stand, in the paper's words: the calls contain the issue, and no later call ended it, by exchanging the code, by revoking
+-- the token or as a second showing (`standing-means`); and that the codes and tokens that our server issues, read from its answers, are
+-- the random bytes that it was handed (`random-code`, `random-access`, `random-refresh`).
 --
 -- In order: what one event issued and ended; what stands after one event; after a list of them; codes and tokens.
 -- Assumes nothing.
-use mathlib.Core.Path.{_≡_, refl, sym, ap, _∙_, subst}
+use mathlib.Core.Path.{_≡_, refl, sym, ap, ap₂, _∙_, subst}
 use mathlib.Core.Logic.{_↔_, _⊎_, inl, inr}
-use mathlib.Core.Bool.{Bool, true, false, not, cond, _&&_, false≢true, true≢false}
+use mathlib.Core.Bool.{Bool, true, false, not, cond, _&&_, _||_, false≢true, true≢false}
 use mathlib.Core.List.{List, [], _∷_, _++_, map, List·Memᴰ, List·Memᴰ·head, List·Memᴰ·tail, List·Memᴰ·cases-cons, List·Memᴰ·not-nil, List·Memᴰ·append-cases, Memᴰ·append-left, Memᴰ·append-right}
 use Prim.Native.Nat.{ℕ, max, _≤_}
 use native.Mathlib.Omega.{arith}
@@ -16,6 +15,7 @@ use lib.ListN.{length, length-drop}
 use lib.Seq.{length-take-le}
 use Rattle.octets.specs.Text.{bytes}
 use Rattle.octets.specs.Search.{keep}
+use Rattle.octets.proofs.Booleans.{or-none}
 use Rattle.octets.proofs.Counting.{keep-in, keep-out, member-map}
 use Rattle.encoding.specs.Hex.{hexText}
 use Rattle.client_registry.specs.Layout.{redirectRoom}
@@ -31,7 +31,7 @@ use Rattle.protocol.specs.Granting.{secondHandle, decisionOn}
 use Rattle.protocol.specs.Outcomes.{Handed}
 use Rattle.history.specs.Calls.{Call, authorization, token, handedTo, Event}
 use Rattle.history.specs.Server.{outcomeOf, resultOf, ours}
-use Rattle.history.specs.Contents.{spent, Issue, isA, valueOf, isExchange, codeIn, accessIn, refreshIn, firstTwenty, lastTwenty, twenties, issuedBy, isSpentBy, asSpent, afterGrant, isWithdrawnBy, standingAfter, Contents, nothingYet, withEvent, withEvents}
+use Rattle.history.specs.Contents.{spent, Issue, isA, valueOf, isExchange, codeIn, accessIn, refreshIn, firstTwenty, lastTwenty, twenties, issuedBy, isSpentBy, asSpent, afterGrant, isWithdrawnBy, isRevokedBy, standingAfter, Contents, nothingYet, withEvent, withEvents}
 use Rattle.history.proofs.Readings.{second-last}
 use Rattle.history.proofs.AnyCall.{outcomeOn, asked, unfitTo, isPast, seen-past, past-buffers, past-registry, fit-size, planOn, granted-on}
 use Rattle.history.proofs.Asking.{ReadAs, refusedAs, exchangeAs, refreshAs, credentialsAs, token-read}
@@ -59,11 +59,12 @@ module _ (clients : List Client) where
   unfoldable pub issuedIn : Contents → Event → List Issue
   issuedIn c e = cond (isIssue e) (issuedBy clients (timeOf c e) (c .standing) (e .call) (e .result)) []
 
-  -- whether it ended x: it exchanged the code x, or was a second showing that withdrew the token x
+  -- whether it ended x: it exchanged the code x, or revoked the token x, or was a second showing that withdrew it
   unfoldable pub endedIn : Contents → Event → Issue → Bool
   endedIn c e x =
       not (e .result .unfit)
-      && cond (e .result .granted) (isSpentBy (e .call) x) (isWithdrawnBy clients (timeOf c e) (c .standing) (e .call) x)
+      && cond (e .result .granted) (isSpentBy (e .call) x || isRevokedBy clients (timeOf c e) (c .standing) (e .call) x)
+      (isWithdrawnBy clients (timeOf c e) (c .standing) (e .call) x)
 
   unfoldable pub Unended : Contents → Issue → List Event → Type 0
   Unended c x [] = Unit {0}
@@ -100,7 +101,26 @@ module _ (clients : List Client) where
     abbrev Came : Contents → Event → Type 0
     Came c e = List·Memᴰ x (issuedIn c e) ⊎ (List·Memᴰ x (c .standing) × (endedIn c e x ≡ false))
 
-    entered : (c : Contents) (e : Event) → List·Memᴰ x (withEvent clients e c .standing) ↔ Came c e
+    -- nor is one that is revoked
+    left-in : (call : Call) (revoked : Issue → Bool) (l : List Issue)
+        → List·Memᴰ x (map (afterGrant call) (keep (λ y. not (revoked y)) l)) ↔ (List·Memᴰ x l × ((isSpentBy call x || revoked x) ≡ false))
+    left-in call revoked l = (there, back)
+      where
+        left : Issue → Bool
+        left y = not (revoked y)
+
+        there : List·Memᴰ x (map (afterGrant call) (keep left l)) → List·Memᴰ x l × ((isSpentBy call x || revoked x) ≡ false)
+        there m =
+            let k = kept-in call (keep left l) .0 m in
+            let was = keep-out left x l (k .0) in
+            (was .0, ap₂ _||_ (k .1) (not-true (revoked x) (was .1)))
+
+        back : List·Memᴰ x l × ((isSpentBy call x || revoked x) ≡ false) → List·Memᴰ x (map (afterGrant call) (keep left l))
+        back p =
+            let none = or-none (isSpentBy call x) (revoked x) (p .1) in
+            kept-in call (keep left l) .1 (keep-in left x l (p .0) (ap not (none .1)), none .0)
+
+    pub entered : (c : Contents) (e : Event) → List·Memᴰ x (withEvent clients e c .standing) ↔ Came c e
     unfolding withEvent standingAfter issuedIn endedIn
     entered c e = by (e .result .unfit) (e .result .granted)
       where
@@ -110,8 +130,14 @@ module _ (clients : List Client) where
         gone : Issue → Bool
         gone = isWithdrawnBy clients (timeOf c e) (c .standing) (e .call)
 
+        revoked : Issue → Bool
+        revoked = isRevokedBy clients (timeOf c e) (c .standing) (e .call)
+
+        old : List Issue
+        old = map (afterGrant (e .call)) (keep (λ y. not (revoked y)) (c .standing))
+
         grown : List Issue
-        grown = issued ++ map (afterGrant (e .call)) (c .standing)
+        grown = issued ++ old
 
         thinned : List Issue
         thinned = keep (λ y. not (gone y)) (c .standing)
@@ -120,7 +146,7 @@ module _ (clients : List Client) where
         Then unfit granted =
             List·Memᴰ x (cond unfit c (record { highest = timeOf c e; standing = cond granted grown thinned; randoms = twenties (e .call) ++ c .randoms }) .standing)
             ↔ (List·Memᴰ x (cond (not unfit && granted) issued [])
-            ⊎ (List·Memᴰ x (c .standing) × ((not unfit && cond granted (isSpentBy (e .call) x) (gone x)) ≡ false)))
+            ⊎ (List·Memᴰ x (c .standing) × ((not unfit && cond granted (isSpentBy (e .call) x || revoked x) (gone x)) ≡ false)))
 
         by : (unfit granted : Bool) → Then unfit granted
         by true granted = (λ m. inr (m, refl), back)
@@ -130,14 +156,14 @@ module _ (clients : List Client) where
             back (inr p) = p .0
         by false true = (λ m. there (List·Memᴰ·append-cases issued m), back)
           where
-            there : List·Memᴰ x issued ⊎ List·Memᴰ x (map (afterGrant (e .call)) (c .standing))
-                → List·Memᴰ x issued ⊎ (List·Memᴰ x (c .standing) × (isSpentBy (e .call) x ≡ false))
+            there : List·Memᴰ x issued ⊎ List·Memᴰ x old
+                → List·Memᴰ x issued ⊎ (List·Memᴰ x (c .standing) × ((isSpentBy (e .call) x || revoked x) ≡ false))
             there (inl m) = inl m
-            there (inr m) = inr (kept-in (e .call) (c .standing) .0 m)
+            there (inr m) = inr (left-in (e .call) revoked (c .standing) .0 m)
 
-            back : List·Memᴰ x issued ⊎ (List·Memᴰ x (c .standing) × (isSpentBy (e .call) x ≡ false)) → List·Memᴰ x grown
-            back (inl m) = Memᴰ·append-left (map (afterGrant (e .call)) (c .standing)) m
-            back (inr p) = Memᴰ·append-right issued (kept-in (e .call) (c .standing) .1 p)
+            back : List·Memᴰ x issued ⊎ (List·Memᴰ x (c .standing) × ((isSpentBy (e .call) x || revoked x) ≡ false)) → List·Memᴰ x grown
+            back (inl m) = Memᴰ·append-left old m
+            back (inr p) = Memᴰ·append-right issued (left-in (e .call) revoked (c .standing) .1 p)
         by false false = (λ m. let k = keep-out (λ y. not (gone y)) x (c .standing) m in inr (k .0, not-true (gone x) (k .1)), back)
           where
             back : List·Memᴰ x [] ⊎ (List·Memᴰ x (c .standing) × (gone x ≡ false)) → List·Memᴰ x thinned
@@ -171,7 +197,7 @@ module _ (clients : List Client) where
       back (inr (inl p)) = inl (entered x unspent c e .1 (inl (p .0)), p .1)
       back (inr (inr k)) = inr k
 
-  -- a code that is not spent, or a token, stands exactly when some call issued it and no later call exchanged or withdrew it
+  -- a code that is not spent, or a token, stands exactly when some call issued it and no later call exchanged, revoked or withdrew it
   pub standing-means : (x : Issue) → isA spent x ≡ false → (es : List Event)
       → List·Memᴰ x (withEvents clients nothingYet es .standing) ↔ Contained nothingYet x es
   standing-means x unspent es = let s = stood x unspent nothingYet es in (λ m. there (s .0 m), λ k. s .1 (inr k))

@@ -8,7 +8,7 @@
 -- `slots` are the store's at the time t, `standing` what stands by the calls, `seen` the random bytes that came with them.
 -- Assumes nothing.
 use mathlib.Core.Path.{_≡_, refl, sym, ap, ap₂, _∙_, subst}
-use mathlib.Core.Bool.{Bool, true, false, cond, _&&_, false≢true, not, _||_, and-assoc, and-true, and-false, or-true, Bool·not-not}
+use mathlib.Core.Bool.{Bool, true, false, cond, _&&_, false≢true, not, _||_, and-assoc, and-true, or-true, Bool·not-not}
 use mathlib.Core.List.{List, [], _∷_, _++_, map, List·Memᴰ}
 use Prim.Native.Nat.{ℕ, _≤_, _+_, _-_}
 use native.Mathlib.Omega.{arith}
@@ -20,11 +20,10 @@ use Rattle.octets.proofs.Lists.{same-refl}
 use Rattle.encoding.specs.Hex.{readHandle, isHandleText}
 use Rattle.encoding.specs.declared.DigestText.{DigestText}
 use Rattle.encoding.specs.declared.HandleText.{HandleText}
-use Rattle.octets.specs.Search.{count, bit, any, keep, firstOr}
-use Rattle.token_store.specs.Store.{kindAccess, kindRefresh, codeKind, lifetimeOf, originOf, issue, isLive, isBoundCode, isToken, isSought, holds, shows, soughtKey, freeSlot, comesFrom, withoutTokens}
+use Rattle.octets.specs.Search.{count, bit, any, keep}
+use Rattle.token_store.specs.Store.{kindAccess, kindRefresh, codeKind, lifetimeOf, originOf, issue, isLive, isBoundCode, isToken, isSought, holds, shows, soughtKey, comesFrom, withoutTokens}
 use Rattle.token_store.specs.declared.Slot.{Slot}
-use Rattle.token_store.specs.declared.Sought.{Sought}
-use Rattle.token_store.specs.declared.Sought.the-variants.{Code as soughtCode, Spent as soughtSpent, Refresh as soughtRefresh, Access as soughtAccess}
+use Rattle.token_store.specs.declared.Sought.the-variants.{Code as soughtCode, Spent as soughtSpent, Refresh as soughtRefresh, Access as soughtAccess, Token as soughtToken}
 use Rattle.token_store.specs.Layout.{slotCount}
 use Rattle.token_store.proofs.Slots.{free-dead}
 use Rattle.protocol.specs.declared.Refusal.{Refusal}
@@ -35,41 +34,25 @@ use Rattle.protocol.specs.declared.ExchangeRequest.{ExchangeRequest}
 use Rattle.protocol.specs.declared.RefreshRequest.{RefreshRequest}
 use Rattle.protocol.specs.declared.CredentialsRequest.{CredentialsRequest}
 use Rattle.protocol.specs.declared.Request.{Request}
-use Rattle.protocol.specs.declared.Request.the-variants.{Refused, Code, Exchange, Refresh, Credentials}
+use Rattle.protocol.specs.declared.Request.the-variants.{Refused, Code, Exchange, Refresh, Credentials, Revocation}
 use Rattle.protocol.specs.declared.CheckAnswer.the-variants.{NotLive, Live}
 use Rattle.protocol.specs.Answers.{isGrant}
 use Rattle.protocol.specs.Refusals.{Reason, when, firstOf as firstReason}
 use Rattle.protocol.specs.Requests.{scopeGiven, fits}
-use Rattle.protocol.specs.Granting.{Plan, firstHandle, secondHandle, shownSlot, withSpent, room, tokenOn, newCode, refusedPlan, codePlan, exchangePlan, refreshPlan, credentialsPlan, planFor, decisionOn, slotsBy, slotsAfter, isTaken, anyTaken, isUnverified, liveToken, checkSlots}
+use Rattle.protocol.specs.Granting.{Plan, firstHandle, secondHandle, shownSlot, withSpent, room, tokenOn, newCode, refusedPlan, codePlan, exchangePlan, refreshPlan, credentialsPlan, revocationPlan, planFor, decisionOn, slotsBy, slotsAfter, isTaken, anyTaken, isUnverified, liveToken, checkSlots}
 use Rattle.protocol.proofs.Reasons.{grant-every, unrefused}
 use Rattle.history.specs.Contents.{Sort, code, access, refresh, lifetime, NeverTwice}
 use Rattle.history.specs.Server.{isLiveCheck}
-use Rattle.octets.proofs.Counting.{bit-le, count-append, bit-none, any-count, firstOr-passes, firstOr-none}
+use Rattle.octets.proofs.Counting.{bit-le, count-append, bit-none, any-count}
 use Rattle.history.proofs.Challenges.{FitChallenge, digestOf, noDigest}
 use Rattle.history.proofs.HeldIssues.{Handle, Held, asSlot, token-origin}
-use Rattle.history.proofs.Invariant.{originHeld, spendHeld, Invariant, invariant-seen, invariant-issue, invariant-withdraw, room-left, room-spent, origin, contained, found, spent-kept, shown-again}
+use Rattle.history.proofs.Invariant.{none-shown, shown-key, originHeld, spendHeld, Invariant, invariant-seen, invariant-issue, invariant-withdraw, room-left, room-spent, origin, contained, found, spent-kept, shown-again}
+use Rattle.history.proofs.Revoked.{isRevokedHeld, revoked-kept}
 use Rattle.history.proofs.Readings.{onlyOf, firstOf, secondOf, Brings}
 
 -- ---- what is granted
 
--- a text that is no handle's shows no slot
-pub none-shown : (q : Sought) (p : HandleText) (slots : List Slot) → p .valid ≡ false → shownSlot q p slots ≡ freeSlot
-unfolding firstOr
-none-shown q p [] e = refl
-none-shown q p (s ∷ slots) e =
-    let none : soughtKey q p s ≡ false = ap (λ (v : Bool). isSought q s && (v && same (p .bytes) (s .handle))) e ∙ and-false (isSought q s) in
-    ap (λ (b : Bool). cond b s (shownSlot q p slots)) none ∙ none-shown q p slots e
-
--- what is found live was sought
-pub shown-key : (t : ℕ) (slots : List Slot) (q : Sought) (p : HandleText) → isLive t (shownSlot q p slots) ≡ true
-    → soughtKey q p (shownSlot q p slots) ≡ true
-shown-key t slots q p live = by (any (soughtKey q p) slots) refl
-  where
-    by : (b : Bool) → any (soughtKey q p) slots ≡ b → soughtKey q p (shownSlot q p slots) ≡ true
-    by true e = firstOr-passes (soughtKey q p) freeSlot slots e
-    by false e = absurd (false≢true (sym (free-dead t) ∙ ap (isLive t) (sym (firstOr-none (soughtKey q p) freeSlot slots e)) ∙ live))
-
--- so that where nothing is presented there is nothing to grant
+-- where nothing is presented there is nothing to grant
 module _ (t : ℕ) (slots : List Slot) (random : List ℕ) (d : DigestText) where
   pub exchange-none : (r : ExchangeRequest) → isGrant (decisionOn (planFor t slots random (readHandle []) d (Exchange r))) ≡ false
   unfolding planFor exchangePlan firstReason isGrant readHandle isHandleText
@@ -161,11 +144,12 @@ module _ (t : ℕ) (standing : List Held) (clients : ℕ) (random : List ℕ) (t
   issuedHeld (Refused r) q = []
   issuedHeld (Code r) q = codeHeld t (onlyOf (q .0)) (q .2) r ∷ []
   issuedHeld (Exchange r) q =
-      let o = originHeld code p standing in
+      let o = originHeld soughtCode p standing in
       tokenHeld refresh t (secondOf q) o (o .handle) (o .scope) ∷ tokenHeld access t (firstOf q) o (o .handle) (o .scope) ∷ []
   issuedHeld (Refresh r) q =
-      let o = originHeld refresh p standing in tokenHeld access t (firstOf (q .0)) o (o .origin) (scopeGiven (r .scope) (o .scope)) ∷ []
+      let o = originHeld soughtRefresh p standing in tokenHeld access t (firstOf (q .0)) o (o .origin) (scopeGiven (r .scope) (o .scope)) ∷ []
   issuedHeld (Credentials r) q = clientHeld t (firstOf (q .0)) r ∷ []
+  issuedHeld (Revocation r) q = []
 
   -- and what it leaves of what stood
   unfoldable pub keptHeld : Request → List Held
@@ -174,6 +158,7 @@ module _ (t : ℕ) (standing : List Held) (clients : ℕ) (random : List ℕ) (t
   keptHeld (Exchange r) = map (spendHeld p) standing
   keptHeld (Refresh r) = standing
   keptHeld (Credentials r) = standing
+  keptHeld (Revocation r) = keep (λ e. not (isRevokedHeld t p (r .client) standing (asSlot e))) standing
 
   -- what stands after it
   abbrev pub heldAfter : (request : Request) → Brings clients random twenties d request → List Held
@@ -188,9 +173,10 @@ unfoldable pub heldAfterRefusal : ℕ → List Held → HandleText → Request �
 heldAfterRefusal t standing p (Refused r) = standing
 heldAfterRefusal t standing p (Code r) = standing
 heldAfterRefusal t standing p (Exchange r) =
-    cond (any (isShownHeld t p r) standing) (keep (λ e. not (comesFrom (p .bytes) (asSlot e))) standing) standing
+    cond (any (isShownHeld t p r) standing) (keep (λ e. not (comesFrom soughtToken (p .bytes) (asSlot e))) standing) standing
 heldAfterRefusal t standing p (Refresh r) = standing
 heldAfterRefusal t standing p (Credentials r) = standing
+heldAfterRefusal t standing p (Revocation r) = standing
 
 code-slot : (t : ℕ) (handle : Handle) (d : DigestText) (f : FitChallenge d) (r : CodeRequest)
     → newCode t (handle .octets) d r ≡ asSlot (codeHeld t handle f r)
@@ -227,15 +213,18 @@ module _ {t : ℕ} {slots : List Slot} {standing : List Held} {seen : List (List
   abbrev plan : Request → Plan
   plan request = planFor t slots random p d request
 
+  more-seen : {left : List Slot} {stays : List Held} → Invariant t left stays seen → Invariant t left stays (twenties ++ seen)
+  more-seen w = invariant-seen w (twenties ++ seen) (λ h. omega (arith, count-append (same h) twenties seen))
+
   granted-kept : (request : Request) (q : Brings clients random twenties d request) → Granted t slots random p d request
       → Invariant t (plan request .granted) (heldAfter t standing clients random twenties p d request q) (twenties ++ seen)
-  unfolding planFor refusedPlan codePlan exchangePlan refreshPlan credentialsPlan issuedHeld keptHeld Brings count
+  unfolding planFor refusedPlan codePlan exchangePlan refreshPlan credentialsPlan revocationPlan issuedHeld keptHeld Brings count
   granted-kept (Refused r) q e = absurd (false≢true (sym (unrefused (refusedPlan t slots random r .reasons) e 0 (lit< tt))))
   granted-kept (Code r) q e =
       rw (q .0 .handles, code-slot t (onlyOf (q .0)) d (q .2) r)
       (invariant-issue v (codeHeld t (onlyOf (q .0)) (q .2) r) (one-slot t slots random p d _ _ e))
   granted-kept (Exchange r) q e =
-      let o = originHeld code p standing in
+      let o = originHeld soughtCode p standing in
       let has = exchange-has t slots random p d r e in
       let roomy : 2 ≤ room t (withSpent p slots) = omega (arith, room-spent v once p, has .1) in
       let on : Slot → ℕ → List ℕ → Slot = λ s kind handle. tokenOn s (s .handle) t kind handle (s .scope) in
@@ -248,12 +237,12 @@ module _ {t : ℕ} {slots : List Slot} {standing : List Held} {seen : List (List
       (λ (s : Slot). Invariant t
       (issue t (on s kindRefresh (secondHandle random)) (issue t (on s kindAccess (firstHandle random)) (withSpent p slots)))
       (heldAfter t standing clients random twenties p d (Exchange r) q) (firstHandle random ∷ secondHandle random ∷ seen))
-      (origin v once code p (has .0)) both)
+      (origin v once soughtCode p (has .0)) both)
   granted-kept (Refresh r) q e =
-      let o = originHeld refresh p standing in
+      let o = originHeld soughtRefresh p standing in
       let s = shownSlot soughtRefresh p slots in
       let has = refresh-has t slots random p d r e in
-      let same-slot = origin v once refresh p (has .0) in
+      let same-slot = origin v once soughtRefresh p (has .0) in
       let sought = and-left (isSought soughtRefresh s) (shows p s) (shown-key t slots soughtRefresh p (has .0)) in
       let token : isToken s ≡ true = ap (λ (b : Bool). eqb (s .kind) kindAccess || b) sought ∙ or-true (eqb (s .kind) kindAccess) in
       let origin-is = token-origin o (subst (λ (x : Slot). isToken x ≡ true) (sym same-slot) token) in
@@ -268,19 +257,22 @@ module _ {t : ℕ} {slots : List Slot} {standing : List Held} {seen : List (List
   granted-kept (Credentials r) q e =
       rw (q .0 .handles)
       (invariant-seen (invariant-issue v (clientHeld t (firstOf (q .0)) r) (one-slot t slots random p d _ _ e)) _ (λ k. omega arith))
+  granted-kept (Revocation r) q e = more-seen (revoked-kept v once p random d r e)
 
   denied-kept : (request : Request) → Invariant t (plan request .denied) (heldAfterRefusal t standing p request) seen
-  unfolding planFor refusedPlan codePlan exchangePlan refreshPlan credentialsPlan heldAfterRefusal
+  unfolding planFor refusedPlan codePlan exchangePlan refreshPlan credentialsPlan revocationPlan heldAfterRefusal
   denied-kept (Refused r) = v
   denied-kept (Code r) = v
   denied-kept (Exchange r) = rw (shown-again v once p (r .client)) (by (any (isShownHeld t p r) standing))
     where
       by : (b : Bool)
-          → Invariant t (cond b (withoutTokens (p .bytes) slots) slots) (cond b (keep (λ e. not (comesFrom (p .bytes) (asSlot e))) standing) standing) seen
-      by true = invariant-withdraw v (comesFrom (p .bytes))
+          → Invariant t (cond b (withoutTokens soughtToken (p .bytes) slots) slots)
+          (cond b (keep (λ e. not (comesFrom soughtToken (p .bytes) (asSlot e))) standing) standing) seen
+      by true = invariant-withdraw v (comesFrom soughtToken (p .bytes))
       by false = v
   denied-kept (Refresh r) = v
   denied-kept (Credentials r) = v
+  denied-kept (Revocation r) = v
 
   pub request-kept : (request : Request) (q : Brings clients random twenties d request)
       → Invariant t (slotsAfter (plan request))
@@ -293,7 +285,7 @@ module _ {t : ℕ} {slots : List Slot} {standing : List Held} {seen : List (List
           → Invariant t (slotsBy made (plan request))
           (cond (isGrant made) (heldAfter t standing clients random twenties p d request q) (heldAfterRefusal t standing p request)) (twenties ++ seen)
       by Grant f = f refl
-      by (Refuse r) f = invariant-seen (denied-kept request) (twenties ++ seen) (λ h. omega (arith, count-append (same h) twenties seen))
+      by (Refuse r) f = more-seen (denied-kept request)
 
 -- ---- room
 
@@ -377,7 +369,7 @@ module _ {t : ℕ} {slots : List Slot} {standing : List Held} {seen : List (List
         verified x = not (isUnverified d x)
 
         there : any (isExchangeableHeld t p d r) standing ≡ (isLive t s && (mine s && repeats s && verified s))
-        there = contained v once code p (λ x. mine x && repeats x && verified x)
+        there = contained v once soughtCode p (λ x. mine x && repeats x && verified x)
 
     pub refresh-answer : (d : DigestText) (r : RefreshRequest) → isGrant (decisionOn (planFor t slots random p d (Refresh r)))
         ≡ (any (isRefreshableHeld t p r) standing && hasRoomHeld 1 t standing)
@@ -391,7 +383,7 @@ module _ {t : ℕ} {slots : List Slot} {standing : List Held} {seen : List (List
         s = shownSlot soughtRefresh p slots
 
         there : any (isRefreshableHeld t p r) standing ≡ (isLive t s && (eqb (s .client) (r .client) && fits (r .scope) (s .scope)))
-        there = contained v once refresh p (λ x. eqb (x .client) (r .client) && fits (r .scope) (x .scope))
+        there = contained v once soughtRefresh p (λ x. eqb (x .client) (r .client) && fits (r .scope) (x .scope))
 
     pub credentials-answer : (d : DigestText) (r : CredentialsRequest) → isGrant (decisionOn (planFor t slots random p d (Credentials r)))
         ≡ hasRoomHeld 1 t standing
@@ -413,9 +405,9 @@ module _ {t : ℕ} {slots : List Slot} {standing : List Held} {seen : List (List
       by false = refl
 
       there : any (λ e. isLive t (asSlot e) && soughtKey soughtAccess p (asSlot e)) standing ≡ isLive t s
-      there = simp and-true at (contained v once access p (λ x. true))
+      there = simp and-true at (contained v once soughtAccess p (λ x. true))
 
   pub check-names : (e : Held) → List·Memᴰ e standing → isLive t (asSlot e) ≡ true → soughtKey soughtAccess p (asSlot e) ≡ true
       → checkSlots t slots p ≡ Live (record { client = e .client; farm = e .farm; scope = e .scope; left = e .expiry - t })
   unfolding checkSlots
-  check-names e m live here = rw (found v once access p e m live here, live)
+  check-names e m live here = rw (found v once soughtAccess p e m live here, live)

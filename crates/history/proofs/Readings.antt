@@ -33,13 +33,14 @@ use Rattle.protocol.specs.declared.Decision.{Decision}
 use Rattle.protocol.specs.declared.ScopeAsked.{ScopeAsked}
 use Rattle.protocol.specs.declared.ScopeAsked.the-variants.{Everything, Only, Unreadable}
 use Rattle.protocol.specs.declared.Request.{Request}
-use Rattle.protocol.specs.declared.Request.the-variants.{Refused, Code, Exchange, Refresh, Credentials}
+use Rattle.protocol.specs.declared.Request.the-variants.{Refused, Code, Exchange, Refresh, Credentials, Revocation}
 use Rattle.protocol.specs.declared.Reading.{Reading}
 use Rattle.protocol.specs.Limits.{codeRandom, tokenRandom}
 use Rattle.protocol.specs.Requests.{askedBy, scopeAsked, fits, scopeGiven, unlessRefused}
 use Rattle.protocol.specs.Authorization.{queryClient, isBadClient, codeAsked, codeReading, pageReasons, redirectReasons, readAuthorization}
 use Rattle.protocol.specs.ClientForms.{cameWith, isBadHeader, isUnclearId, isImpostor, presentedId, callClient, isInvalidClient, formReasons}
 use Rattle.protocol.specs.Token.{tokenNames, readExchange, readRefresh, readCredentials, readGrant, readToken}
+use Rattle.protocol.specs.Revocation.{revocationNames, readRevocation}
 use Rattle.protocol.specs.Granting.{firstHandle, secondHandle}
 use Rattle.protocol.proofs.Reasons.{unrefused, decided}
 use Rattle.history.specs.Server.{isUnfitRefusal}
@@ -172,6 +173,7 @@ module _ (clients : ℕ) (random : List ℕ) (twenties : List (List ℕ)) (d : D
   Brings (Exchange r) = TwoHandles random twenties
   Brings (Refresh r) = TwoHandles random twenties × AskedSet (r .scope)
   Brings (Credentials r) = TwoHandles random twenties × FieldsFit clients (r .client) 0 (r .scope)
+  Brings (Revocation r) = Unit {0}
 
 module _ (clients : ℕ) (random : List ℕ) (twenties : List (List ℕ)) where
   abbrev pub BringsAs : Reading → Type 0
@@ -239,3 +241,10 @@ module _ (clients : List Client) where
       (decided (P _) _ (refl, tt) (λ _. (two, scope-asked asks)))
       (brings-either n random twenties (isOnce (bytes "client_credentials") grant) _ _
       (decided (P _) _ (refl, (refl, tt)) (λ _. (two, record { client = known; wide = omega arith; scope = set }))) refl)))
+
+  pub revocation-brings : (random : List ℕ) (twenties : List (List ℕ)) (header body : List ℕ)
+      → BringsAs (length clients) random twenties (readRevocation clients header body)
+  unfolding readRevocation formReasons unlessRefused isUnfitRefusal Brings
+  revocation-brings random twenties header body =
+      decided (BringsUnless (length clients) random twenties _) (formReasons revocationNames (bytes "token") clients header body) (refl, (refl, tt))
+      (λ _. tt)

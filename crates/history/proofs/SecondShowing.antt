@@ -23,13 +23,13 @@ use Rattle.encoding.specs.declared.DigestText.{DigestText}
 use Rattle.encoding.specs.declared.HandleText.{HandleText}
 use Rattle.token_store.specs.Store.{freeSlot, isLive, isSought, soughtKey, withoutTokens, comesFrom}
 use Rattle.token_store.specs.declared.Slot.{Slot}
-use Rattle.token_store.specs.declared.Sought.the-variants.{Code as soughtCode, Spent as soughtSpent}
+use Rattle.token_store.specs.declared.Sought.the-variants.{Code as soughtCode, Spent as soughtSpent, Token as soughtToken}
 use Rattle.token_store.proofs.Slots.{free-dead}
 use Rattle.protocol.specs.declared.Decision.{Decision}
 use Rattle.protocol.specs.declared.Decision.the-variants.{Grant, Refuse}
 use Rattle.protocol.specs.declared.ExchangeRequest.{ExchangeRequest}
 use Rattle.protocol.specs.declared.Request.{Request}
-use Rattle.protocol.specs.declared.Request.the-variants.{Refused, Code, Exchange, Refresh, Credentials}
+use Rattle.protocol.specs.declared.Request.the-variants.{Refused, Code, Exchange, Refresh, Credentials, Revocation}
 use Rattle.protocol.specs.declared.Reading.{Reading}
 use Rattle.protocol.specs.declared.ErrorWord.the-variants.{InvalidRequest, InvalidClient, InvalidGrant}
 use Rattle.protocol.specs.declared.Refusal.the-variants.{Token}
@@ -38,15 +38,16 @@ use Rattle.protocol.specs.Requests.{unlessRefused}
 use Rattle.protocol.specs.Authorization.{queryClient, codeReading, pageReasons, redirectReasons, readAuthorization}
 use Rattle.protocol.specs.ClientForms.{isInvalidForm, isInvalidClient, callClient, formReasons}
 use Rattle.protocol.specs.Token.{tokenNames, readToken}
-use Rattle.protocol.specs.Granting.{shownSlot, isOwn, isShownAgain, decisionOn, refusedPlan, codePlan, exchangePlan, refreshPlan, credentialsPlan, planFor, planOf}
+use Rattle.protocol.specs.Revocation.{revocationNames, readRevocation}
+use Rattle.protocol.specs.Granting.{shownSlot, isOwn, isShownAgain, decisionOn, refusedPlan, codePlan, exchangePlan, refreshPlan, credentialsPlan, revocationPlan, planFor, planOf}
 use Rattle.protocol.specs.Outcomes.{Handed}
-use Rattle.history.specs.Calls.{Call, authorization, token, check}
+use Rattle.history.specs.Calls.{Call, authorization, token, revocation, check}
 use Rattle.history.specs.Contents.{spent, Issue, isA, isLiveAt, isOf, isTokenFrom, valueOf, isExchange, caller, isAdmitted, isSecondShowing, codeShown, isWithdrawnBy, NeverTwice}
 use Rattle.history.proofs.HeldIssues.{Held, asSlot, asIssue, issue-live, issue-key, issue-from}
-use Rattle.history.proofs.Invariant.{Invariant, shown-again}
-use Rattle.history.proofs.OneRequest.{none-shown, isShownHeld, heldAfterRefusal}
+use Rattle.history.proofs.Invariant.{none-shown, Invariant, shown-again}
+use Rattle.history.proofs.OneRequest.{isShownHeld, heldAfterRefusal}
 use Rattle.history.proofs.AnyCall.{asked}
-use Rattle.history.proofs.Asking.{caller-is, exchangeAsked, exchangeReading, unlessMissing, exchange-read, ReadAs, refusedAs, exchangeAs, refreshAs, credentialsAs, token-read}
+use Rattle.history.proofs.Asking.{caller-is, exchangeAsked, exchangeReading, revocationReading, unlessMissing, exchange-read, ReadAs, refusedAs, exchangeAs, refreshAs, credentialsAs, token-read}
 
 -- ---- which calls show a code
 
@@ -57,6 +58,7 @@ isExchangeRequest (Code r) = false
 isExchangeRequest (Exchange r) = true
 isExchangeRequest (Refresh r) = false
 isExchangeRequest (Credentials r) = false
+isExchangeRequest (Revocation r) = false
 
 module _ (clients : List Client) where
   -- a well-formed exchange of an admitted client, with the text of a handle
@@ -64,6 +66,7 @@ module _ (clients : List Client) where
   isShowing (authorization query decision farm handed) = false
   isShowing (token header body handed) =
       isAdmitted clients header body && isExchange body && readHandle (valueOf body (bytes "code")) .valid
+  isShowing (revocation header body clock output) = false
   isShowing (check presented clock) = false
 
   -- a call is such an exchange, or is read as something else and shows no code
@@ -96,12 +99,18 @@ module _ (clients : List Client) where
       by (credentialsAs _ neither is e) = rw e
 
   shown-by : (c : Call) → ShownBy c
-  unfolding asked isShowing readAuthorization unlessRefused firstOf isMissing readHandle isHandleText onlyValue
+  unfolding asked isShowing readAuthorization readRevocation unlessRefused firstOf isMissing readHandle isHandleText onlyValue
   shown-by (authorization query decision farm handed) =
       let client = clientAt clients (queryClient clients query) in
       other (authorization query decision farm handed) (by (firstOf (pageReasons clients query ++ redirectReasons client query decision farm))) refl
     where
       by : (d : Decision) → isExchangeRequest (unlessRefused d (codeReading clients query farm) .request) ≡ false
+      by Grant = refl
+      by (Refuse r) = refl
+  shown-by (revocation header body clock output) =
+      other (revocation header body clock output) (by (firstOf (formReasons revocationNames (bytes "token") clients header body))) refl
+    where
+      by : (d : Decision) → isExchangeRequest (unlessRefused d (revocationReading clients header body) .request) ≡ false
       by Grant = refl
       by (Refuse r) = refl
   shown-by (check presented clock) = other (check presented clock) refl refl
@@ -145,6 +154,7 @@ refusal-keeps t held p (Code r) e = refl
 refusal-keeps t held p (Exchange r) e = absurd (false≢true (sym e))
 refusal-keeps t held p (Refresh r) e = refl
 refusal-keeps t held p (Credentials r) e = refl
+refusal-keeps t held p (Revocation r) e = refl
 
 module _ (clients : List Client) (held : List Held) (t : ℕ) where
   abbrev issues : List Issue
@@ -174,6 +184,7 @@ module _ (clients : List Client) (held : List Held) (t : ℕ) where
           → (b && any (isShownHeld t (readHandle (text header body)) (exchangeAsked clients header body)) held) ≡ false
       by true e = none-held t (readHandle (text header body)) (exchangeAsked clients header body) held e
       by false e = refl
+  second-none (revocation header body clock output) e = refl
   second-none (check presented clock) e = refl
 
   -- of a code that is shown
@@ -196,7 +207,7 @@ module _ (clients : List Client) (held : List Held) (t : ℕ) where
 
       by : (b : Bool) → any (isShownHeld t p (exchangeAsked clients header body)) held ≡ b
           → keep (λ e. not (b && isTokenFrom (text header body) e)) issues
-          ≡ map (asIssue clients) (cond b (keep (λ e. not (comesFrom (p .bytes) (asSlot e))) held) held)
+          ≡ map (asIssue clients) (cond b (keep (λ e. not (comesFrom soughtToken (p .bytes) (asSlot e))) held) held)
       by true e =
           keep-map (asIssue clients) (λ e. not (isTokenFrom (text header body) e)) held
           ∙ ap (λ (k : Held → Bool). map (asIssue clients) (keep k held))
@@ -227,12 +238,13 @@ module _ (clients : List Client) (held : List Held) (t : ℕ) where
 -- what a refusal of a request that is no exchange leaves
 unread-denied : (t : ℕ) (slots : List Slot) (random : List ℕ) (p : HandleText) (d : DigestText) (request : Request)
     → isExchangeRequest request ≡ false → planFor t slots random p d request .denied ≡ slots
-unfolding planFor refusedPlan codePlan exchangePlan refreshPlan credentialsPlan
+unfolding planFor refusedPlan codePlan exchangePlan refreshPlan credentialsPlan revocationPlan
 unread-denied t slots random p d (Refused r) e = refl
 unread-denied t slots random p d (Code r) e = refl
 unread-denied t slots random p d (Exchange r) e = absurd (false≢true (sym e))
 unread-denied t slots random p d (Refresh r) e = refl
 unread-denied t slots random p d (Credentials r) e = refl
+unread-denied t slots random p d (Revocation r) e = refl
 
 module _ (clients : List Client) (t : ℕ) (slots : List Slot) where
   -- the call shows a spent code again
@@ -241,6 +253,7 @@ module _ (clients : List Client) (t : ℕ) (slots : List Slot) where
   isAgain (token header body handed) =
       isAdmitted clients header body && isExchange body
       && isShownAgain t (callClient clients header body) (readHandle (valueOf body (bytes "code"))) slots
+  isAgain (revocation header body clock output) = false
   isAgain (check presented clock) = false
 
   -- a text that is no handle's shows no code again
@@ -258,25 +271,26 @@ module _ (clients : List Client) (t : ℕ) (slots : List Slot) where
       by : (b : Bool) → (b && p .valid) ≡ false → (b && isShownAgain t (callClient clients header body) p slots) ≡ false
       by true e = again-none p (callClient clients header body) e
       by false e = refl
+  unshown-again (revocation header body clock output) e = refl
   unshown-again (check presented clock) e = refl
 
   exchange-denied : (random header body : List ℕ) (handed : Handed) → isAdmitted clients header body ≡ true → isExchange body ≡ true
       → readToken clients header body ≡ exchangeReading clients header body
       → let c = token header body handed in
-      planOf t slots random (asked clients c) .denied ≡ cond (isAgain c) (withoutTokens (readHandle (codeShown c) .bytes) slots) slots
+      planOf t slots random (asked clients c) .denied ≡ cond (isAgain c) (withoutTokens soughtToken (readHandle (codeShown c) .bytes) slots) slots
   unfolding isAgain codeShown asked planFor exchangePlan
   exchange-denied random header body handed a x read = rw (read, a, x)
 
   -- what a call that is refused leaves
   pub denied-is : (random : List ℕ) (c : Call)
-      → planOf t slots random (asked clients c) .denied ≡ cond (isAgain c) (withoutTokens (readHandle (codeShown c) .bytes) slots) slots
+      → planOf t slots random (asked clients c) .denied ≡ cond (isAgain c) (withoutTokens soughtToken (readHandle (codeShown c) .bytes) slots) slots
   denied-is random c = by (shown-by clients c)
     where
       by : {c : Call} → ShownBy clients c
-          → planOf t slots random (asked clients c) .denied ≡ cond (isAgain c) (withoutTokens (readHandle (codeShown c) .bytes) slots) slots
+          → planOf t slots random (asked clients c) .denied ≡ cond (isAgain c) (withoutTokens soughtToken (readHandle (codeShown c) .bytes) slots) slots
       by (other c unread none) =
           unread-denied t slots random (asked clients c .presented) (asked clients c .challenge) (asked clients c .request) unread
-          ∙ ap (λ (b : Bool). cond b (withoutTokens (readHandle (codeShown c) .bytes) slots) slots) (sym (unshown-again c none))
+          ∙ ap (λ (b : Bool). cond b (withoutTokens soughtToken (readHandle (codeShown c) .bytes) slots) slots) (sym (unshown-again c none))
       by (showing header body handed a x read) = exchange-denied random header body handed a x read
 
   -- where no random bytes came twice, a call shows a code again exactly when it is a second showing in the claim's words
@@ -287,6 +301,7 @@ module _ (clients : List Client) (t : ℕ) (slots : List Slot) where
   again-second {held} v never (token header body handed) =
       ap (λ (b : Bool). isAdmitted clients header body && isExchange body && b)
       (shown-held clients held t header body ∙ sym (shown-again v never (readHandle (valueOf body (bytes "code"))) (callClient clients header body)))
+  again-second v never (revocation header body clock output) = refl
   again-second v never (check presented clock) = refl
 
   -- a call that shows a code again does so by the text of a handle, and is refused as `invalid_grant`
@@ -300,6 +315,7 @@ module _ (clients : List Client) (t : ℕ) (slots : List Slot) where
       (λ n.
       let none = again-none p (callClient clients header body) n in
       absurd (false≢true (sym none ∙ and-right (isAdmitted clients header body && isExchange body) again e)))
+  again-valid (revocation header body clock output) e = absurd (false≢true e)
   again-valid (check presented clock) e = absurd (false≢true e)
 
   exchange-refused : (random header body : List ℕ) (handed : Handed) → readToken clients header body ≡ exchangeReading clients header body

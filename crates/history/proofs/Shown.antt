@@ -2,7 +2,7 @@
 -- its answer are its random bytes in hex, and the values of its form are what it was read as.
 --
 -- In order: parts of the answer; a call that is granted; a code; tokens on a code; a token on a refresh token; a client's token for
--- itself; any call.
+-- itself; a token that is revoked; any call.
 -- Assumes nothing.
 use mathlib.Core.Path.{_≡_, refl, sym, ap, ap₂, _∙_, fun-ext, subst}
 use mathlib.Core.Bool.{Bool, true, false, cond, not, _&&_, _||_, false≢true}
@@ -18,7 +18,7 @@ use Rattle.octets.specs.Lists.{part, same}
 use Rattle.octets.specs.Search.{keep, firstOr}
 use Rattle.octets.proofs.Booleans.{or-none}
 use Rattle.octets.proofs.Lists.{same-eq}
-use Rattle.octets.proofs.Counting.{firstOr-map}
+use Rattle.octets.proofs.Counting.{keep-all, keep-map, firstOr-map}
 use Rattle.encoding.specs.Hex.{hexText, readHandle}
 use Rattle.encoding.specs.Base64.{url, base64Text}
 use Rattle.encoding.proofs.Hex.{hex-length}
@@ -29,7 +29,7 @@ use Rattle.client_registry.specs.Registry.{Client}
 use Rattle.client_registry.specs.Lookup.{isKnown, clientAt}
 use Rattle.token_store.specs.Store.{Store, callTime, soughtKey}
 use Rattle.token_store.specs.declared.Slot.{Slot}
-use Rattle.token_store.specs.declared.Sought.the-variants.{Code as soughtCode}
+use Rattle.token_store.specs.declared.Sought.the-variants.{Code as soughtCode, Refresh as soughtRefresh}
 use Rattle.protocol.specs.declared.PageCause.the-variants.{Query}
 use Rattle.protocol.specs.declared.Refusal.{Refusal}
 use Rattle.protocol.specs.declared.Refusal.the-variants.{ErrorPage}
@@ -40,21 +40,23 @@ use Rattle.protocol.specs.Answers.{isGrant}
 use Rattle.protocol.specs.Refusals.{Reason, firstOf as firstReason}
 use Rattle.protocol.specs.Requests.{refusedReading, unlessRefused}
 use Rattle.protocol.specs.Authorization.{queryClient, isBadClient, isBadRedirect, isBadState, isInvalidRequest, challengeGiven, codeAsked, codeReading, pageReasons, redirectReasons, readAuthorization, separator, stateText, location, codeParameter, locationText}
-use Rattle.protocol.specs.ClientForms.{callClient}
+use Rattle.protocol.specs.ClientForms.{callClient, formReasons}
 use Rattle.protocol.specs.Token.{readToken, tokenReply, refreshMember}
+use Rattle.protocol.specs.Revocation.{revocationNames, readRevocation}
 use Rattle.protocol.specs.Granting.{firstHandle, secondHandle, Plan, refusedPlan, exchangePlan, planFor, planOf, decisionOn}
 use Rattle.protocol.specs.Outcomes.{Handed, replyText}
 use Rattle.protocol.proofs.Reasons.{unrefused}
 use Rattle.protocol.proofs.Lengths.{separator-length}
-use Rattle.history.specs.Calls.{Call, authorization, token, check, handedTo, Result}
+use Rattle.history.specs.Calls.{Call, authorization, token, revocation, check, handedTo, Result}
 use Rattle.history.specs.Server.{resultOf}
-use Rattle.history.specs.Contents.{Sort, code, access, refresh, Issue, isA, isOf, noIssue, originOf, valueOf, isExchange, isRefresh, isCredentials, askedOr, lifetime, fortyAt, codeIn, accessIn, refreshIn, codeIssue, tokenIssue, exchangeIssues, refreshIssues, ownIssue, issuedBy, isSpentBy, asSpent, afterGrant, isWithdrawnBy, standingAfter, twenties}
+use Rattle.history.specs.Contents.{Sort, code, access, refresh, Issue, isA, isOf, noIssue, originOf, valueOf, isExchange, isRefresh, isCredentials, askedOr, lifetime, fortyAt, codeIn, accessIn, refreshIn, codeIssue, tokenIssue, exchangeIssues, refreshIssues, ownIssue, issuedBy, isSpentBy, asSpent, afterGrant, isWithdrawnBy, goesWith, isRevokedBy, standingAfter, twenties}
 use Rattle.history.proofs.Challenges.{FitChallenge, challenge-shown}
-use Rattle.history.proofs.HeldIssues.{Handle, Held, asSlot, asIssue, spentHeld, noneHeld, issue-key}
+use Rattle.history.proofs.HeldIssues.{Handle, Held, asSlot, asIssue, spentHeld, sought, noneHeld, issue-key}
 use Rattle.history.proofs.Invariant.{originHeld, spendHeld}
 use Rattle.history.proofs.Readings.{given-asked, onlyOf, firstOf, secondOf, Brings, BringsAs}
+use Rattle.history.proofs.Revoked.{goesWithSlot, isRevokedHeld, goes-issue, any-revocable}
 use Rattle.history.proofs.OneRequest.{codeHeld, tokenHeld, clientHeld, issuedHeld, keptHeld, heldAfter, heldAfterRefusal}
-use Rattle.history.proofs.Asking.{caller-is, exchangeReading, refreshReading, credentialsReading, ReadAs, refusedAs, exchangeAs, refreshAs, credentialsAs, token-read}
+use Rattle.history.proofs.Asking.{caller-is, exchangeReading, refreshReading, credentialsReading, revocationReading, ReadAs, refusedAs, exchangeAs, refreshAs, credentialsAs, token-read}
 use Rattle.history.proofs.AnyCall.{outcomeOn, asked, unfitTo, planOn, granted-on}
 use Rattle.history.proofs.SecondShowing.{withdrawn-shown}
 use Rattle.history.proofs.Written.{textOn, written-text, written-on}
@@ -148,7 +150,7 @@ module _ (clients : List Client) (held : List Held) where
 
   -- a look-up by the claim's words finds what a look-up by the slots finds
   pub origin-shown : {A : Type 0} (f : Issue → A) (sort : Sort) (text : List ℕ) → f noIssue ≡ f (asIssue clients noneHeld)
-      → f (originOf sort text issues) ≡ f (asIssue clients (originHeld sort (readHandle text) held))
+      → f (originOf sort text issues) ≡ f (asIssue clients (originHeld (sought sort) (readHandle text) held))
   origin-shown f sort text none =
       firstOr-map (asIssue clients) f noIssue noneHeld none (λ e. isA sort e && isOf text e) held
       ∙ ap (λ (k : Held → Bool). f (asIssue clients (firstOr noneHeld k held))) (fun-ext (issue-key clients sort text))
@@ -156,7 +158,7 @@ module _ (clients : List Client) (held : List Held) where
   -- a token on the code that a text presents, and on the refresh token
   module _ (t : ℕ) (sort : Sort) (text : List ℕ) (h : Handle) (e : text ≡ hexText (h .octets)) (presented : List ℕ) where
     on-code : let o = originOf code presented issues in
-        let x = originHeld code (readHandle presented) held in
+        let x = originHeld soughtCode (readHandle presented) held in
         tokenIssue sort t text o (o .text) (o .scope) ≡ asIssue clients (tokenHeld sort t h x (x .handle) (x .scope))
     unfolding noIssue noneHeld
     on-code =
@@ -165,7 +167,7 @@ module _ (clients : List Client) (held : List Held) where
         ∙ origin-shown (λ x. tokenIssue sort t (hexText (h .octets)) x (x .text) (x .scope)) code presented refl
 
     on-refresh : (f : ℕ → ℕ) → let o = originOf refresh presented issues in
-        let x = originHeld refresh (readHandle presented) held in
+        let x = originHeld soughtRefresh (readHandle presented) held in
         tokenIssue sort t text o (o .origin) (f (o .scope)) ≡ asIssue clients (tokenHeld sort t h x (x .origin) (f (x .scope)))
     unfolding noIssue noneHeld
     on-refresh f =
@@ -371,7 +373,7 @@ module _ (clients : List Client) (short : (n : ℕ) → length (clientAt clients
         let text = valueOf body (bytes "refresh_token") in
         let scope = formValue body (bytes "scope") in
         let accessed = on-refresh clients held at access _ first (access-text read granted (first .size)) text (λ s. askedOr scope s) in
-        let o = originHeld refresh (readHandle text) held in
+        let o = originHeld soughtRefresh (readHandle text) held in
         let given = ap (λ (s : ℕ). asIssue clients (tokenHeld access at first o (o .origin) s)) (sym (given-asked scope (o .scope))) in
         rw (none-spent other, other, is) (ap {B = List Issue} (λ e. e ∷ issues clients held) (accessed ∙ given))
 
@@ -400,19 +402,54 @@ module _ (clients : List Client) (short : (n : ℕ) → length (clientAt clients
         by (refreshAs other is e) = subst Stands (sym e) (refresh-stands other is e)
         by (credentialsAs other neither is e) = subst Stands (sym e) (credentials-stands other neither is e)
 
+  -- ---- a token that is revoked
+
+  module _ (header body : List ℕ) (clock : ℕ) (output : List ℕ) where
+    abbrev revokes : Call
+    revokes = revocation header body clock output
+
+    abbrev now : ℕ
+    now = callTime g clock
+
+    abbrev RevocationStands : Reading → Type 0
+    RevocationStands reading =
+        (q : BringsAs (length clients) [] [] reading)
+        → map (afterGrant revokes) (keep (λ e. not (isRevokedBy clients now (issues clients held) revokes e)) (issues clients held))
+        ≡ map (asIssue clients) (heldAfter now held (length clients) [] [] (reading .presented) (reading .challenge) (reading .request) q)
+
+    -- what goes with it by the issues is what goes with it by the slots
+    revoked-shown : (e : Held) → isRevokedBy clients now (issues clients held) revokes (asIssue clients e)
+        ≡ isRevokedHeld now (readHandle (valueOf body (bytes "token"))) (callClient clients header body) held (asSlot e)
+    unfolding isRevokedBy
+    revoked-shown e =
+        any-revocable clients now header body held (λ x. goesWith x (asIssue clients e)) (λ s. goesWithSlot s (asSlot e)) (λ x. goes-issue clients x e)
+
+    revocation-stands : IsGranted now (g .slots) [] (readRevocation clients header body) → RevocationStands (readRevocation clients header body)
+    unfolding readRevocation unlessRefused isSpentBy issuedHeld keptHeld
+    revocation-stands granted =
+        let reasons = formReasons revocationNames (bytes "token") clients header body in
+        let reading = revocationReading clients header body in
+        subst (λ (d : Decision). RevocationStands (unlessRefused d reading)) (sym (unless-granted now (g .slots) [] (firstReason reasons) reading granted))
+        (λ q. map-id _
+        ∙ keep-map (asIssue clients) _ held
+        ∙ ap (λ (k : Held → Bool). map (asIssue clients) (keep k held)) (fun-ext (λ e. ap not (revoked-shown e))))
+
   -- ---- any call
 
   granted-shown : (c : Call) → unfitTo c ≡ false
       → (q : BringsAs (length clients) (handedTo c .random) (twenties c) (asked clients c))
       → isGrant (decisionOn (planOn clients g c)) ≡ true
       → let time = callTime g (handedTo c .clock) in
-      issuedBy clients time (issues clients held) c (result c) ++ map (afterGrant c) (issues clients held)
+      issuedBy clients time (issues clients held) c (result c)
+      ++ map (afterGrant c) (keep (λ e. not (isRevokedBy clients time (issues clients held) c e)) (issues clients held))
       ≡ map (asIssue clients)
       (heldAfter time held (length clients) (handedTo c .random) (twenties c) (asked clients c .presented) (asked clients c .challenge)
       (asked clients c .request) q)
-  unfolding issuedBy handedTo asked
-  granted-shown (authorization query decision farm handed) fit q e = code-stands query decision farm handed fit e q
-  granted-shown (token header body handed) fit q e = token-stands header body handed fit e q
+  unfolding issuedBy isRevokedBy handedTo asked twenties
+  granted-shown (authorization query decision farm handed) fit q e =
+      rw (keep-all (issues clients held)) (code-stands query decision farm handed fit e q)
+  granted-shown (token header body handed) fit q e = rw (keep-all (issues clients held)) (token-stands header body handed fit e q)
+  granted-shown (revocation header body clock output) fit q e = revocation-stands header body clock output e q
   granted-shown (check presented clock) fit q e = never-refused (callTime g clock) (g .slots) [] (ErrorPage Query) e
 
   pub standing-shown : (c : Call) → unfitTo c ≡ false
@@ -440,7 +477,9 @@ module _ (clients : List Client) (short : (n : ℕ) → length (clientAt clients
       afterRefusal = heldAfterRefusal time held (asked clients c .presented) (asked clients c .request)
 
       read : List Issue
-      read = issuedBy clients time (issues clients held) c (result c) ++ map (afterGrant c) (issues clients held)
+      read =
+          issuedBy clients time (issues clients held) c (result c)
+          ++ map (afterGrant c) (keep (λ e. not (isRevokedBy clients time (issues clients held) c e)) (issues clients held))
 
       left : List Issue
       left = keep (λ e. not (isWithdrawnBy clients time (issues clients held) c e)) (issues clients held)

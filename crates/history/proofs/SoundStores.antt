@@ -9,23 +9,23 @@ use mathlib.Core.Bool.{Bool, true, false, cond, _||_}
 use mathlib.Core.List.{List, [], _∷_, map}
 use Prim.Native.Nat.{ℕ, suc, _+_, _-_, _*_, _^_, _≤_, _<_}
 use native.Mathlib.Omega.{arith}
-use lib.Dec.{ltb, lit≤, lit<}
+use lib.Dec.{eqb, ltb, lit≤, lit<}
 use lib.ListN.{length, take, drop, getD, replicate, length-append, length-drop, length-replicate}
 use lib.Seq.{drop-at, drop-drop, length-take-le}
 use Rattle.octets.specs.Lists.{part, Bytes, every, isZero}
 use Rattle.octets.specs.BigEndian.{bigEndianBytes}
 use Rattle.octets.proofs.BigEndian.{length-be-bytes}
-use Rattle.octets.proofs.Booleans.{and-left}
+use Rattle.octets.proofs.Booleans.{cond-of, and-left}
 use Rattle.octets.proofs.Lists.{each-replicate, zero-bytes}
 use Rattle.encoding.specs.declared.DigestText.{DigestText}
 use Rattle.encoding.specs.declared.HandleText.{HandleText}
 use Rattle.token_store.specs.Layout.{timeSize, slotCount, handleSize, linkSize, expirySize, slotSize, storeSize, slotStart, latestTime}
-use Rattle.octets.specs.Search.{firstOr, replaceAll}
+use Rattle.octets.specs.Search.{firstOr, replaceFirst, replaceAll}
 use Rattle.token_store.specs.Store.{issue, Store, SlotFits, SlotsFit, kindAccess, kindRefresh, kindLast, isUsed, isToken, isLive, isVacant, linkTo, originOf, freeSlot, spentCode, fresh, concat, encodeSlot, decodeSlot, encode, decode, soughtKey, comesFrom, withoutTokens}
 use Rattle.token_store.specs.Fit.{fitLink, fitSlot, fitStore}
 use Rattle.token_store.specs.declared.Slot.{Slot}
 use Rattle.token_store.specs.declared.Sought.{Sought}
-use Rattle.token_store.specs.declared.Sought.the-variants.{Code as soughtCode, Refresh as soughtRefresh}
+use Rattle.token_store.specs.declared.Sought.the-variants.{Code as soughtCode, Refresh as soughtRefresh, Token as soughtToken}
 use Rattle.octets.proofs.Searches.{every-each, each-every, replaceFirst-each, replaceAll-at, replaceAll-each}
 use Rattle.token_store.proofs.Slots.{slot-back, free-bytes, free-fits}
 use Rattle.token_store.proofs.Codec.{length-slots, slots-fit, encode-decode, decode-encode, piece-at, decode-fresh}
@@ -34,9 +34,9 @@ use Rattle.protocol.specs.declared.Decision.{Decision}
 use Rattle.protocol.specs.declared.Decision.the-variants.{Grant, Refuse}
 use Rattle.protocol.specs.declared.CodeRequest.{CodeRequest}
 use Rattle.protocol.specs.declared.Request.{Request}
-use Rattle.protocol.specs.declared.Request.the-variants.{Refused, Code, Exchange, Refresh, Credentials}
+use Rattle.protocol.specs.declared.Request.the-variants.{Refused, Code, Exchange, Refresh, Credentials, Revocation}
 use Rattle.protocol.specs.Answers.{isGrant}
-use Rattle.protocol.specs.Granting.{Plan, firstHandle, shownSlot, isShownAgain, newCode, tokenOn, refusedPlan, codePlan, exchangePlan, refreshPlan, credentialsPlan, planFor, decisionOn, slotsBy, slotsAfter}
+use Rattle.protocol.specs.Granting.{Plan, firstHandle, shownSlot, isShownAgain, withoutShown, revokedSlots, newCode, tokenOn, refusedPlan, codePlan, exchangePlan, refreshPlan, credentialsPlan, revocationPlan, planFor, decisionOn, slotsBy, slotsAfter}
 use Rattle.octets.proofs.Counting.{length-replaceFirst, length-replaceAll}
 use Rattle.history.proofs.Challenges.{FitChallenge}
 use Rattle.history.proofs.Readings.{FieldsFit, scope-given, Brings}
@@ -86,7 +86,7 @@ module _ (clients : ℕ) (s : Slot) (used : isUsed s ≡ true) where
 
 -- ---- a store
 
-abbrev AllSound : ℕ → List Slot → Type 0
+abbrev pub AllSound : ℕ → List Slot → Type 0
 AllSound clients slots = (k : ℕ) → SoundSlot clients (getD slots k freeSlot)
 
 pub record Sound (clients : ℕ) (g : Store) : Type 0 where
@@ -215,9 +215,30 @@ module _ {clients : ℕ} (few : clients ≤ 64) {t : ℕ} (early : t ≤ latestT
   issue-each : (s : Slot) (l : List Slot) → SoundSlot clients s → AllSound clients l → AllSound clients (issue t s l)
   issue-each s l new old = replaceFirst-each (isVacant t) freeSlot (SoundSlot clients) s new l old
 
+  -- a revocation frees slots at the most
+  freed-each : (k : Slot → Bool) (l : List Slot) → AllSound clients l → AllSound clients (replaceAll freeSlot k l)
+  freed-each k l old = replaceAll-each freeSlot k (SoundSlot clients) (sound-free clients) l old
+
+  revoked-as : (P : List Slot → Type 0) → P slots → P (replaceFirst (soughtKey soughtToken p) freeSlot slots)
+      → ((k : Slot → Bool) (l : List Slot) → P l → P (replaceAll freeSlot k l)) → P (revokedSlots t p slots)
+  revoked-as P old first all =
+      let token = shownSlot soughtToken p slots in
+      cond-of P (isLive t token) (withoutShown p slots) slots
+      (λ _. cond-of P (eqb (token .kind) kindRefresh) _ _ (λ _. all _ _ first) (λ _. first)) (λ _. old)
+
+  revoked-each : AllSound clients (revokedSlots t p slots)
+  revoked-each =
+      revoked-as (AllSound clients) (w .slots)
+      (replaceFirst-each (soughtKey soughtToken p) freeSlot (SoundSlot clients) freeSlot (sound-free clients) slots (w .slots)) freed-each
+
+  revoked-size : length (revokedSlots t p slots) ≡ length slots
+  revoked-size =
+      revoked-as (λ l. length l ≡ length slots) refl (length-replaceFirst (soughtKey soughtToken p) freeSlot slots)
+      (λ k l e. length-replaceAll freeSlot k l ∙ e)
+
   granted-each : (request : Request) → Brings clients random twenties d request → Granted t slots random p d request
       → AllSound clients (planFor t slots random p d request .granted)
-  unfolding planFor refusedPlan codePlan exchangePlan refreshPlan credentialsPlan Brings
+  unfolding planFor refusedPlan codePlan exchangePlan refreshPlan credentialsPlan revocationPlan Brings
   granted-each (Refused r) q e = w .slots
   granted-each (Code r) q e = issue-each _ slots (code-sound r (omega (arith, q .0 .size)) (q .1) (q .2)) (w .slots)
   granted-each (Exchange r) q e =
@@ -243,39 +264,43 @@ module _ {clients : ℕ} (few : clients ≤ 64) {t : ℕ} (early : t ≤ latestT
   granted-each (Credentials r) q e =
       let a = length-take-le handleSize random (omega (arith, q .0 .size)) in
       issue-each _ slots (sound-used clients _ refl few (lit≤ tt) a (omega arith) (q .1) (token-link _ refl (firstHandle random) refl a)) (w .slots)
+  granted-each (Revocation r) q e = revoked-each
 
   granted-size : (request : Request) → length (planFor t slots random p d request .granted) ≡ length slots
-  unfolding planFor refusedPlan codePlan exchangePlan refreshPlan credentialsPlan
+  unfolding planFor refusedPlan codePlan exchangePlan refreshPlan credentialsPlan revocationPlan
   granted-size (Refused r) = refl
   granted-size (Code r) = simp length-replaceFirst
   granted-size (Exchange r) = simp length-replaceFirst
   granted-size (Refresh r) = simp length-replaceFirst
   granted-size (Credentials r) = simp length-replaceFirst
+  granted-size (Revocation r) = revoked-size
 
   -- a refusal frees slots at the most
   denied-each : (request : Request) → AllSound clients (planFor t slots random p d request .denied)
-  unfolding planFor refusedPlan codePlan exchangePlan refreshPlan credentialsPlan
+  unfolding planFor refusedPlan codePlan exchangePlan refreshPlan credentialsPlan revocationPlan
   denied-each (Refused r) = w .slots
   denied-each (Code r) = w .slots
   denied-each (Exchange r) = by (isShownAgain t (r .client) p slots)
     where
-      by : (b : Bool) → AllSound clients (cond b (withoutTokens (p .bytes) slots) slots)
-      by true = replaceAll-each freeSlot (comesFrom (p .bytes)) (SoundSlot clients) (sound-free clients) slots (w .slots)
+      by : (b : Bool) → AllSound clients (cond b (withoutTokens soughtToken (p .bytes) slots) slots)
+      by true = freed-each (comesFrom soughtToken (p .bytes)) slots (w .slots)
       by false = w .slots
   denied-each (Refresh r) = w .slots
   denied-each (Credentials r) = w .slots
+  denied-each (Revocation r) = w .slots
 
   denied-size : (request : Request) → length (planFor t slots random p d request .denied) ≡ length slots
-  unfolding planFor refusedPlan codePlan exchangePlan refreshPlan credentialsPlan
+  unfolding planFor refusedPlan codePlan exchangePlan refreshPlan credentialsPlan revocationPlan
   denied-size (Refused r) = refl
   denied-size (Code r) = refl
   denied-size (Exchange r) = by (isShownAgain t (r .client) p slots)
     where
-      by : (b : Bool) → length (cond b (withoutTokens (p .bytes) slots) slots) ≡ length slots
-      by true = length-replaceAll freeSlot (comesFrom (p .bytes)) slots
+      by : (b : Bool) → length (cond b (withoutTokens soughtToken (p .bytes) slots) slots) ≡ length slots
+      by true = length-replaceAll freeSlot (comesFrom soughtToken (p .bytes)) slots
       by false = refl
   denied-size (Refresh r) = refl
   denied-size (Credentials r) = refl
+  denied-size (Revocation r) = refl
 
   -- a request leaves a sound store
   pub sound-after : (request : Request) → Brings clients random twenties d request

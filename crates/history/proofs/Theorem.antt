@@ -1,13 +1,14 @@
--- Demand 3: the one claim about every list of calls (`demand3`), and what is claimed beyond it (`credentials-yield`).
+-- Demand 3: the one claim about every list of calls (`demand3`), and what is claimed beyond it (`credentials-yield`, `revocations`).
 --
 -- A call that is judged is past refusals 1 to 4, so it is served on the store that the calls before it left, and that store belongs to
 -- what they contain (`kept-all`). So what it is answered is what its request is answered there (`exchange-answer` and its siblings), and
 -- the claim's tests of the issues that stand are tests of the slots that hold them (HeldIssues).
 --
--- In order: a call that is judged; the token endpoint, grant by grant; the check; the location; a refused try; the theorem.
+-- In order: a call that is judged; the bytes of a slot; the token endpoint, grant by grant; a revocation; the check; the location; a
+-- refused try; the theorem.
 -- Assumes nothing.
 use mathlib.Core.Path.{_≡_, refl, sym, ap, ap₂, _∙_, fun-ext, subst}
-use mathlib.Core.Bool.{Bool, true, false, cond, _&&_, and-true, Bool·not-not}
+use mathlib.Core.Bool.{Bool, true, false, cond, not, _&&_, and-true, Bool·not-not}
 use mathlib.Core.List.{List, [], _∷_, List·Memᴰ}
 use Prim.Native.Nat.{ℕ, _+_, _-_, _<_}
 use native.Mathlib.Omega.{arith}
@@ -15,7 +16,8 @@ use lib.Dec.{leb, eqb}
 use lib.ListN.{length, replicate, getD}
 use Rattle.octets.specs.Text.{bytes}
 use Rattle.octets.specs.Lists.{Bytes, part, every, same}
-use Rattle.octets.specs.Search.{count, any}
+use Rattle.octets.specs.Search.{count, any, replaceAll}
+use Rattle.octets.proofs.Booleans.{and-left, and-right}
 use Rattle.octets.proofs.Counting.{count-map, any-map, member-map}
 use Rattle.encoding.specs.Hex.{readHandle}
 use Rattle.encoding.specs.declared.DigestText.{DigestText}
@@ -24,34 +26,37 @@ use Rattle.client_registry.proofs.Clients.{redirect-most}
 use Rattle.client_registry.specs.Registry.{Client, clientsOf}
 use Rattle.client_registry.specs.Lookup.{numberOf, clientAt}
 use Rattle.token_store.specs.Layout.{slotStart, slotSize}
-use Rattle.token_store.specs.Store.{Store, SlotsFit, isToken, originOf as originIn, isLive, freeSlot, encode, decode, decodeSlot, comesFrom, withoutTokens}
+use Rattle.token_store.specs.Store.{Store, SlotsFit, isToken, originOf as originIn, isLive, freeSlot, encode, decode, decodeSlot, soughtKey, comesFrom, withoutTokens}
 use Rattle.token_store.specs.declared.Slot.{Slot}
+use Rattle.token_store.specs.declared.Sought.the-variants.{Token as soughtToken}
 use Rattle.protocol.specs.declared.Decision.{Decision}
 use Rattle.protocol.specs.declared.Decision.the-variants.{Grant}
 use Rattle.protocol.specs.declared.Reading.{Reading}
 use Rattle.protocol.specs.Limits.{tokenRandom}
 use Rattle.protocol.specs.Answers.{isGrant}
-use Rattle.protocol.specs.Refusals.{firstOf}
+use Rattle.protocol.specs.Refusals.{Reason, firstOf}
 use Rattle.protocol.specs.Requests.{fits, scopeAsked, noHandle, noChallenge, unlessRefused}
 use Rattle.protocol.specs.Authorization.{queryClient, isInvalidScope, location, codeParameter, locationText}
-use Rattle.protocol.specs.ClientForms.{callClient}
+use Rattle.protocol.specs.ClientForms.{callClient, formReasons}
 use Rattle.protocol.specs.Token.{challengeAnswered, credentialsReasons, readCredentials, readToken, tokenReply, refreshMember}
-use Rattle.protocol.specs.Granting.{Plan, shownSlot, firstHandle, secondHandle, exchangePlan, refreshPlan, credentialsPlan, planFor, planOf, decisionOn}
-use Rattle.protocol.specs.Outcomes.{Handed, replyText, serveCheck}
-use Rattle.history.specs.Calls.{Call, authorization, token, check, handedTo, AllWellTyped, Result}
+use Rattle.protocol.specs.Revocation.{revocationNames, readRevocation, revocationReply}
+use Rattle.protocol.specs.Granting.{Plan, shownSlot, firstHandle, secondHandle, revokedSlots, exchangePlan, refreshPlan, credentialsPlan, revocationPlan, planFor, planOf, decisionOn, slotsBy, slotsAfter}
+use Rattle.protocol.specs.Outcomes.{Handed, replyText, withoutRandom, serveCheck}
+use Rattle.history.specs.Calls.{Call, authorization, token, revocation, check, handedTo, AllWellTyped, Result}
 use Rattle.history.specs.Server.{outcomeOf, isPassed, namedIn, namedBy, resultOf, ours}
-use Rattle.history.specs.Contents.{Sort, noIssue, code, access, refresh, Issue, isA, isLiveAt, isOf, originOf, valueOf, isExchange, isRefresh, isCredentials, isWithinGranted, askedOr, caller, isSecondShowing, codeShown, firstTwenty, lastTwenty, twenties, NeverTwice}
+use Rattle.history.specs.Contents.{Sort, noIssue, code, access, refresh, Issue, isA, isLiveAt, isToken as isTokenIssue, isOf, originOf, valueOf, isExchange, isRefresh, isCredentials, isWithinGranted, askedOr, caller, isAdmittedToRevoke, isSecondShowing, codeShown, firstTwenty, lastTwenty, twenties, NeverTwice}
 use Rattle.history.specs.Slots.{slotsInAll, holdsTokenFrom}
-use Rattle.history.specs.Claim.{isExchangeable, mayExchange, isRefreshable, mayRefresh, mayHaveOwn, mayPass, hasRoomFor, Answers, store, contained, standing, timeAt, next, Judged, Asks, Demand3, CredentialsYield}
+use Rattle.history.specs.Claim.{isExchangeable, mayExchange, isRefreshable, mayRefresh, mayHaveOwn, mayRevoke, isCleared, mayPass, hasRoomFor, Answers, store, contained, standing, timeAt, next, Judged, Asks, Demand3, CredentialsYield, Revokes}
 use Rattle.protocol.proofs.Reasons.{grant-every}
-use Rattle.history.proofs.HeldIssues.{Held, noneHeld, sought, asSlot, asIssue, issue-live, issue-key, issue-exchanged}
+use Rattle.history.proofs.HeldIssues.{Held, noneHeld, sought, asSlot, asIssue, issue-live, issue-key, token-key, issue-exchanged}
 use Rattle.history.proofs.Invariant.{Invariant, invariant-later, origin}
 use Rattle.history.proofs.Readings.{second-last, within-granted, given-asked}
 use Rattle.history.proofs.OneRequest.{exchange-has, refresh-has, exchange-none, refresh-none, isExchangeableHeld, isRefreshableHeld, hasRoomHeld, exchange-answer, refresh-answer, credentials-answer, check-passes, check-names}
 use Rattle.history.proofs.SoundStores.{slots-same, slots-freed, slot-read-back}
 use Rattle.history.proofs.AnyCall.{outcomeOn, asked, unfitTo, isPast, seen-past, past-buffers, past-registry, fit-size, planOn, store-on, granted-on, refused-left}
 use Rattle.history.proofs.Written.{textOn, written-on}
-use Rattle.history.proofs.Asking.{caller-is, exchangeAsked, refreshAsked, credentialsAsked, exchangeReading, refreshReading, credentialsReading, unlessMissing, unless-missing, exchange-read, refresh-read, credentials-read}
+use Rattle.history.proofs.Asking.{caller-is, exchangeAsked, refreshAsked, credentialsAsked, exchangeReading, refreshReading, credentialsReading, revocationReading, unlessMissing, unless-missing, exchange-read, refresh-read, credentials-read}
+use Rattle.history.proofs.Revoked.{goesWithSlot, goes-bytes, any-revocable, revoked-is, revocation-answer, revoked-held}
 use Rattle.history.proofs.SecondShowing.{isAgain, denied-is, again-second, again-valid}
 use Rattle.history.proofs.Shown.{is-grant, unless-granted, unless-grants, origin-shown}
 use Rattle.history.proofs.AllCalls.{storeWith, Kept, kept-read, kept-all, never-tail}
@@ -119,6 +124,22 @@ module _ (registry : List ℕ) (small : Bytes registry) (cs : List Call) (typed 
       ∙ count-map (asIssue clients) p held
       ∙ ap (λ (r : Held → Bool). count r held) (fun-ext agree)
 
+  -- ---- the bytes of a slot
+
+  abbrev slotAt : ℕ → List ℕ
+  slotAt i = part (store ours registry cs) (slotStart i) slotSize
+
+  -- where the slots that pass k are freed, those that pass k by their bytes are zero, and no other changes
+  freed-slot : (k : Slot → Bool) (time i : ℕ) → i < slotsInAll
+      → part (encode (record { time = time; slots = replaceAll freeSlot k slots })) (slotStart i) slotSize
+      ≡ cond (k (decodeSlot (slotAt i))) (replicate slotSize 0) (slotAt i)
+  freed-slot k time i below =
+      let fits : SlotsFit slots = λ n. kept .sound .slots n .fits in
+      let bytes-are : slotAt i ≡ part (encode left) (slotStart i) slotSize = ap (λ (b : List ℕ). part b (slotStart i) slotSize) (kept .bytes) in
+      let read : decodeSlot (slotAt i) ≡ getD slots i freeSlot = ap decodeSlot bytes-are ∙ slot-read-back left (kept .sound .size) fits i below in
+      slots-freed left (kept .sound .size) fits k time i below
+      ∙ ap₂ (λ (b : Bool) (l : List ℕ). cond b (replicate slotSize 0) l) (ap k (sym read)) (sym bytes-are)
+
   -- ---- the token endpoint
 
   module _ (header body : List ℕ) (handed : Handed) (a : Asks ours registry cs header body handed) where
@@ -177,7 +198,7 @@ module _ (registry : List ℕ) (small : Bytes registry) (cs : List Call) (typed 
         → shownSlot (sought sort) (readHandle text) slots .scope ≡ originOf sort text (standing ours registry cs) .scope
     unfolding noIssue noneHeld
     scope-held sort text live =
-        ap (λ (s : Slot). s .scope) (sym (origin invariant once sort (readHandle text) live))
+        ap (λ (s : Slot). s .scope) (sym (origin invariant once (sought sort) (readHandle text) live))
         ∙ sym (origin-shown clients held (λ e. e .scope) sort text refl)
         ∙ ap (λ (l : List Issue). originOf sort text l .scope) (sym (kept .issues))
 
@@ -303,6 +324,93 @@ module _ (registry : List ℕ) (small : Bytes registry) (cs : List Call) (typed 
           rw (caller-is clients header body, ← (given-asked (formValue body (bytes "scope")) (client .scope)))
           (reply-as read (sym (granted-as read) ∙ e))
 
+  -- ---- a revocation
+
+  module _ (header body : List ℕ) (clock : ℕ) (output : List ℕ) (judged : Judged ours registry cs (revocation header body clock output)) where
+    abbrev revokes : Call
+    revokes = revocation header body clock output
+
+    abbrev then : ℕ
+    then = timeAt ours registry cs clock
+
+    abbrev reading : Reading
+    reading = revocationReading clients header body
+
+    abbrev reasons : List Reason
+    reasons = formReasons revocationNames (bytes "token") clients header body
+
+    seen-once : NeverTwice (contained ours registry cs .randoms)
+    seen-once = once-seen revokes judged
+
+    stays : Invariant then slots held (contained ours registry cs .randoms)
+    stays = invariant-at clock seen-once
+
+    let-in : isGrant (firstOf reasons) ≡ isAdmittedToRevoke clients header body
+    unfolding formReasons isAdmittedToRevoke every
+    let-in = grant-every reasons ∙ simp and-true
+
+    done-is : next ours registry cs revokes .granted ≡ (isAdmittedToRevoke clients header body && isGrant (decisionOn (planOf then slots [] reading)))
+    unfolding asked handedTo readRevocation
+    done-is =
+        granted-is revokes judged ∙ unless-grants then slots [] (firstOf reasons) reading
+        ∙ ap (λ (b : Bool). b && isGrant (decisionOn (planOf then slots [] reading))) let-in
+
+    another : (e : Held) → let i = asIssue clients e in
+        (isLiveAt then i && (isTokenIssue i && isOf (valueOf body (bytes "token")) i && not (eqb (i .client) (caller clients header body))))
+        ≡ (isLive then (asSlot e) && (soughtKey soughtToken (reading .presented) (asSlot e) && not (eqb (e .client) (callClient clients header body))))
+    another e =
+        rw (caller-is clients header body)
+        (ap₂ _&&_ (issue-live clients then e)
+        (ap (λ (b : Bool). b && not (eqb (e .client) (callClient clients header body))) (token-key clients (valueOf body (bytes "token")) e)))
+
+    revocation-claim : next ours registry cs revokes .granted
+        ≡ (isAdmittedToRevoke clients header body && mayRevoke clients then (standing ours registry cs) header body)
+    unfolding mayRevoke
+    revocation-claim =
+        done-is
+        ∙ ap (λ (b : Bool). isAdmittedToRevoke clients header body && b)
+        (revocation-answer stays seen-once (reading .presented) [] noChallenge _ ∙ ap not (sym (any-held _ _ another)))
+
+    revocation-reply : next ours registry cs revokes .granted ≡ true → Answers (withoutRandom clock output) (next ours registry cs revokes) []
+    unfolding textOn handedTo revocationReply
+    revocation-reply e = rw (is-grant (decisionOn (planOn clients left revokes)) (sym (granted-is revokes judged) ∙ e)) at (answers-is revokes judged)
+
+    module _ (granted : next ours registry cs revokes .granted ≡ true) where
+      -- what is done is what the reading's plan says
+      read-as : readRevocation clients header body ≡ reading
+      unfolding readRevocation unlessRefused
+      read-as =
+          let let-in-now = let-in ∙ and-left (isAdmittedToRevoke clients header body) _ (sym done-is ∙ granted) in
+          ap (λ (d : Decision). unlessRefused d reading) (is-grant (firstOf reasons) let-in-now)
+
+      plan-granted : isGrant (decisionOn (planOf then slots [] reading)) ≡ true
+      plan-granted = and-right (isAdmittedToRevoke clients header body) _ (sym done-is ∙ granted)
+
+      slots-left : slotsAfter (planOn clients left revokes) ≡ revokedSlots then (reading .presented) slots
+      unfolding asked handedTo slotsBy planFor revocationPlan
+      slots-left = rw read-as (ap (λ (d : Decision). slotsBy d (planOf then slots [] reading)) (is-grant (decisionOn (planOf then slots [] reading)) plan-granted))
+
+      -- a slot's bytes tell whether it goes
+      cleared-is : (slot : List ℕ) → let token = shownSlot soughtToken (reading .presented) slots in
+          isCleared clients then (standing ours registry cs) header body slot ≡ (isLive then token && goesWithSlot token (decodeSlot slot))
+      cleared-is slot =
+          ap (λ (l : List Issue). isCleared clients then l header body slot) (kept .issues)
+          ∙ any-revocable clients then header body held _ (λ x. goesWithSlot x (decodeSlot slot)) (λ x. goes-bytes clients x slot)
+          ∙ revoked-held stays seen-once (reading .presented) [] noChallenge _ plan-granted (decodeSlot slot)
+
+      cleared-slot : (i : ℕ) → i < slotsInAll
+          → part (next ours registry cs revokes .store) (slotStart i) slotSize
+          ≡ cond (isCleared clients then (standing ours registry cs) header body (slotAt i)) (replicate 67 0) (slotAt i)
+      unfolding handedTo
+      cleared-slot i below =
+          let token = shownSlot soughtToken (reading .presented) slots in
+          ap (λ (r : Result). part (r .store) (slotStart i) slotSize) (result-is revokes judged)
+          ∙ ap (λ (b : List ℕ). part b (slotStart i) slotSize) (store-on clients left revokes)
+          ∙ ap (λ (l : List Slot). part (encode (record { time = then; slots = l })) (slotStart i) slotSize)
+          (slots-left ∙ revoked-is stays seen-once (reading .presented))
+          ∙ freed-slot (λ s. isLive then token && goesWithSlot token s) then i below
+          ∙ ap (λ (b : Bool). cond b (replicate slotSize 0) (slotAt i)) (sym (cleared-is (slotAt i)))
+
   -- ---- the check
 
   module _ (presented : List ℕ) (clock : ℕ) (judged : Judged ours registry cs (check presented clock)) where
@@ -369,26 +477,21 @@ module _ (registry : List ℕ) (small : Bytes registry) (cs : List Call) (typed 
 
     module _ (i : ℕ) (below : i < slotsInAll) where
       abbrev slot : List ℕ
-      slot = part (store ours registry cs) (slotStart i) slotSize
+      slot = slotAt i
 
       abbrev Left : Bool → Type 0
       Left b =
-          part (encode (record { time = at; slots = cond b (withoutTokens (readHandle (codeShown c) .bytes) slots) slots })) (slotStart i) slotSize
+          part (encode (record { time = at; slots = cond b (withoutTokens soughtToken (readHandle (codeShown c) .bytes) slots) slots })) (slotStart i) slotSize
           ≡ cond (b && holdsTokenFrom (codeShown c) slot) (replicate 67 0) slot
 
       -- a second showing frees the tokens that came from the code, and nothing else
       left-by : (b : Bool) → again ≡ b → Left b
       left-by true e =
           let handle = readHandle (codeShown c) .bytes in
-          let fits : SlotsFit slots = λ k. kept .sound .slots k .fits in
-          let bytes-are : slot ≡ part (encode left) (slotStart i) slotSize = ap (λ (b : List ℕ). part b (slotStart i) slotSize) (kept .bytes) in
-          let read : decodeSlot slot ≡ getD slots i freeSlot = ap decodeSlot bytes-are ∙ slot-read-back left (kept .sound .size) fits i below in
-          let holds : comesFrom handle (getD slots i freeSlot) ≡ holdsTokenFrom (codeShown c) slot =
-          ap (comesFrom handle) (sym read)
-          ∙ ap (λ (v : Bool). isToken (decodeSlot slot) && (v && same handle (originIn (decodeSlot slot)))) (sym (again-valid clients at slots c e))
+          let holds : comesFrom soughtToken handle (decodeSlot slot) ≡ holdsTokenFrom (codeShown c) slot =
+          ap (λ (v : Bool). isToken (decodeSlot slot) && (v && same handle (originIn (decodeSlot slot)))) (sym (again-valid clients at slots c e))
           in
-          slots-freed left (kept .sound .size) fits (comesFrom handle) at i below
-          ∙ ap₂ (λ (b : Bool) (l : List ℕ). cond b (replicate slotSize 0) l) holds (sym bytes-are)
+          freed-slot (comesFrom soughtToken handle) at i below ∙ ap (λ (b : Bool). cond b (replicate slotSize 0) slot) holds
       left-by false e =
           slots-same (record { time = at; slots = slots }) left refl i ∙ sym (ap (λ (b : List ℕ). part b (slotStart i) slotSize) (kept .bytes))
 
@@ -421,3 +524,11 @@ demand3 registry small cs typed = record {
 -- And beyond it: when a client that asks for itself is served.
 pub credentials-yield : (registry : List ℕ) → Bytes registry → (cs : List Call) → AllWellTyped cs → CredentialsYield ours registry cs
 credentials-yield registry small cs typed = record { yields = credentials-claim registry small cs typed }
+
+-- When a revocation is done, what it answers and what it clears.
+pub revocations : (registry : List ℕ) → Bytes registry → (cs : List Call) → AllWellTyped cs → Revokes ours registry cs
+revocations registry small cs typed = record {
+  done = revocation-claim registry small cs typed;
+  replies = revocation-reply registry small cs typed;
+  clears = cleared-slot registry small cs typed;
+}

@@ -35,9 +35,10 @@ use Rattle.client_registry.specs.Sample.{sampleConfidential, samplePublic, samp
 use Rattle.client_registry.specs.Registry.{clientsOf, distinct}
 use Rattle.token_store.specs.Store.{kindCode, kindBoundCode, codeKind, noLink, isBoundCode, isChallenged, freeSlot, Store, encode, decode, fresh, soughtKey, slotOf, isVacant, concat, encodeSlot, issue, withSlots, withTime, isSought, comesFrom, withoutTokens}
 use Rattle.token_store.specs.Fit.{fitLink}
-use Rattle.token_store.specs.Layout.{timeSize}
+use Rattle.token_store.specs.Layout.{timeSize, slotCount}
 use Rattle.token_store.specs.declared.Slot.{Slot}
-use Rattle.token_store.specs.declared.Sought.the-variants.{Code as soughtCode, Refresh as soughtRefresh}
+use Rattle.token_store.specs.declared.Sought.{Sought}
+use Rattle.token_store.specs.declared.Sought.the-variants.{Code as soughtCode, Refresh as soughtRefresh, Token as soughtToken}
 use Rattle.token_store.proofs.Slots.{free-fits, sought-used}
 use Rattle.token_store.proofs.Fits.{fit-free, fit-used}
 use Rattle.protocol.specs.Answers.{wordText, isGrant}
@@ -46,20 +47,21 @@ use Rattle.protocol.specs.Requests.{askedBy, scopeAsked, fits, scopeGiven, unle
 use Rattle.protocol.specs.Authorization.{challengeGiven, isBadChallenge, isBadQuery, queryClient, isBadClient, isBadRedirect, isSoundState, isBadState, isInvalidRequest, isOtherType, isInvalidScope, codeAsked, pageReasons, redirectReasons, readAuthorization, separator, stateText, location, codeParameter, errorParameter, locationText}
 use Rattle.protocol.specs.ClientForms.{isInvalidForm, lowerCase, sameAnyCase, credentials, isBadHeader, headerId, headerSecret, presentedId, presentedSecret, isUnclearId, isImpostor, callClient, isInvalidClient, formReasons}
 use Rattle.protocol.specs.Token.{isSoundVerifier, challengeAnswered, readExchange, readRefresh, readCredentials, readGrant, errorReply, refusalReply, tokenReply, refreshMember, challenges, readToken}
-use Rattle.protocol.specs.Granting.{refusedPlan, codePlan, exchangePlan, refreshPlan, credentialsPlan, planFor, slotsBy, checkSlots}
-use Rattle.protocol.specs.Outcomes.{Handed, replyText, serveAuthorization, serveToken, serveCheck}
+use Rattle.protocol.specs.Revocation.{readRevocation, revocationReply}
+use Rattle.protocol.specs.Granting.{refusedPlan, codePlan, exchangePlan, refreshPlan, credentialsPlan, revocationPlan, planFor, slotsBy, checkSlots}
+use Rattle.protocol.specs.Outcomes.{Handed, replyText, serveAuthorization, serveToken, serveRevocation, serveCheck}
 use Rattle.protocol.proofs.Starred.{countUp, rfcQuery}
-use Rattle.history.specs.Contents.{standingAfter, withEvent, codeIssue, exchangeIssues, refreshIssues, ownIssue, issuedBy, isSpentBy, isSecondShowing, codeShown, isWithdrawnBy, noIssue, isWithinGranted, noneBeyond, askedOr, namesOr, valueOf, Issue, Contents, nothingYet, withEvents, twenties, isExchange, isRefresh, isCredentials, idIn, isAdmitted}
+use Rattle.history.specs.Contents.{standingAfter, withEvent, codeIssue, exchangeIssues, refreshIssues, ownIssue, issuedBy, isSpentBy, isSecondShowing, codeShown, isWithdrawnBy, isRevokedBy, noIssue, isWithinGranted, noneBeyond, askedOr, namesOr, valueOf, Issue, Contents, nothingYet, withEvents, twenties, isExchange, isRefresh, isCredentials, idIn, isAdmitted}
 use Rattle.history.specs.Claim.{isRepeatedBy, isAnsweredBy, verifies, isVerifierFor, mayRefresh, mayPass, mayExchange, mayHaveOwn, Demand3, CredentialsYield}
 use Rattle.history.specs.Server.{isUnfit, isUnfitDecision, isUnfitRefusal, isUnfitCheck, isGranted, lengthOf, isPassed, namedIn, isLiveCheck, namedBy, nothingNamed, ours}
-use Rattle.history.specs.Calls.{Call, authorization, token, check, handedTo, WellTyped, AllWellTyped, Result, Server, events, freshStore}
+use Rattle.history.specs.Calls.{Call, authorization, token, revocation, check, handedTo, WellTyped, AllWellTyped, Result, Server, events, freshStore}
 use Rattle.history.proofs.AnyCall.{outcomeOn, asked, unfitTo, leftBy, store-on}
-use Rattle.history.proofs.SoundStores.{SoundSlot, sound-used, used-fields, sound-back, sound-fresh}
+use Rattle.history.proofs.SoundStores.{SoundSlot, AllSound, sound-used, used-fields, sound-back, sound-fresh}
 use Rattle.history.proofs.Readings.{FieldsFit}
 use Rattle.history.proofs.AllCalls.{fresh-bytes}
 use Rattle.history.proofs.CallsOnRecords.{resultOn, isFitting}
 use Rattle.history.proofs.Sample.{tested-bytes, SoundSample, sample-served, sample-left}
-use Rattle.history.proofs.Examples.{handedAt, authorizeAt, header, exchangeOf, repeating, byBarnapp, tokenAt, codeText, accessText, refreshText, exchangeAt, refreshFor, challengeText, verifying, challengedVisit, visit, night, isTyped, ownFor, ownText}
+use Rattle.history.proofs.Examples.{handedAt, authorizeAt, header, exchangeOf, repeating, byBarnapp, tokenAt, codeText, accessText, refreshText, exchangeAt, refreshFor, challengeText, verifying, challengedVisit, visit, night, isTyped, ownFor, ownText, revokeAt, revoking, barnRevoking}
 use Rattle.history.proofs.Visit.{tested-calls}
 use Rattle.history.proofs.ServersOnRecords.{Model, Follows, leftAfter, eventsAfter, containedAfter, all, isNamedWrongly, exchangesWrongly, refreshesWrongly, exchangeRepliesWrongly, refreshRepliesWrongly, credentialsWrongly, credentialsRepliesWrongly, passesWrongly, namesWrongly, locatesWrongly, measuresWrongly, spendsSlot, unequal, exchange-fails, refresh-fails, exchange-reply-fails, refresh-reply-fails, credentials-fails, credentials-reply-fails, pass-fails, name-fails, locate-fails, measure-fails, spend-fails}
 
@@ -160,6 +162,7 @@ unfoldable pub spent : Call → Bool → Store → Store → Store
 spent (authorization query decision farm handed) granted before after = after
 spent (token header body handed) granted before after =
     cond granted after (withSlots after (replaceFirst (codeIn body) freeSlot (after .slots)))
+spent (revocation header body clock output) granted before after = after
 spent (check presented clock) granted before after = after
 
 pub spendsOnRefusal : Server
@@ -170,6 +173,7 @@ unfoldable pub spentUnanswered : Call → Bool → Store → Store → Store
 spentUnanswered (authorization query decision farm handed) granted before after = after
 spentUnanswered (token header body handed) granted before after =
     spent (token header body handed) (granted || not (isMissing (formValue body (bytes "code_verifier")))) before after
+spentUnanswered (revocation header body clock output) granted before after = after
 spentUnanswered (check presented clock) granted before after = after
 
 pub spendsUnanswered : Server
@@ -180,6 +184,7 @@ unfoldable pub putBack : Call → Bool → Store → Store → Store
 putBack (authorization query decision farm handed) granted before after = after
 putBack (token header body handed) granted before after =
     cond granted (withSlots after (issue (after .time) (slotOf before (indexWhere (codeIn body) (before .slots))) (after .slots))) after
+putBack (revocation header body clock output) granted before after = after
 putBack (check presented clock) granted before after = after
 
 pub codeTwice : Server
@@ -189,6 +194,7 @@ codeTwice = leavingFrom putBack
 unfoldable pub unkept : Call → Bool → Store → Store → Store
 unkept (authorization query decision farm handed) granted before after = after
 unkept (token header body handed) granted before after = cond (isCredentials body) (withSlots after (before .slots)) after
+unkept (revocation header body clock output) granted before after = after
 unkept (check presented clock) granted before after = after
 
 pub forgetsOwn : Server
@@ -205,11 +211,44 @@ keepsTokens = leavingFrom unwithdrawn
 unfoldable pub withdrawn : Call → Bool → Store → Store → Store
 withdrawn (authorization query decision farm handed) granted before after = after
 withdrawn (token header body handed) granted before after =
-    cond granted after (withSlots after (withoutTokens (readHandle (valueOf body (bytes "code")) .bytes) (after .slots)))
+    cond granted after (withSlots after (withoutTokens soughtToken (readHandle (valueOf body (bytes "code")) .bytes) (after .slots)))
+withdrawn (revocation header body clock output) granted before after = after
 withdrawn (check presented clock) granted before after = after
 
 pub withdrawsForAnyone : Server
 withdrawsForAnyone = leavingFrom withdrawn
+
+-- by a revocation other slots are left, of those before and after it
+unfoldable pub revokedAs : (List ℕ → Bool → List Slot → List Slot → List Slot) → Call → Bool → Store → Store → Store
+revokedAs f (authorization query decision farm handed) granted before after = after
+revokedAs f (token header body handed) granted before after = after
+revokedAs f (revocation header body clock output) granted before after = withSlots after (f body granted (before .slots) (after .slots))
+revokedAs f (check presented clock) granted before after = after
+
+-- the key of the token that is shown
+abbrev tokenIn : Sought → List ℕ → Slot → Bool
+tokenIn q body = soughtKey q (readHandle (valueOf body (bytes "token")))
+
+-- nothing is cleared
+abbrev notRevoked : List ℕ → Bool → List Slot → List Slot → List Slot
+notRevoked body granted before after = before
+
+pub revokesNothing : Server
+revokesNothing = leavingFrom (revokedAs notRevoked)
+
+-- the refresh token is cleared, and its access tokens are left
+abbrev accessLeft : List ℕ → Bool → List Slot → List Slot → List Slot
+accessLeft body granted before after = cond granted (replaceFirst (tokenIn soughtRefresh body) freeSlot before) after
+
+pub leavesAccess : Server
+leavesAccess = leavingFrom (revokedAs accessLeft)
+
+-- the token is cleared, whoever shows it
+abbrev anyoneRevokes : List ℕ → Bool → List Slot → List Slot → List Slot
+anyoneRevokes body granted before after = replaceFirst (tokenIn soughtToken body) freeSlot after
+
+pub revokesForAnyone : Server
+revokesForAnyone = leavingFrom (revokedAs anyoneRevokes)
 
 -- ---- servers that read another store than the one handed in
 
@@ -221,6 +260,7 @@ handedClock registry store c = ours registry (bigEndianBytes timeSize 0 ++ drop 
 unfoldable pub seenAs : (List ℕ → Bool) → (List ℕ → Slot → Slot) → Call → Store → Store
 seenAs isGrantType f (authorization query decision farm handed) g = g
 seenAs isGrantType f (token header body handed) g = cond (isGrantType body) (withSlots g (map (f body) (g .slots))) g
+seenAs isGrantType f (revocation header body clock output) g = g
 seenAs isGrantType f (check presented clock) g = g
 
 abbrev seeing : (List ℕ → Bool) → (List ℕ → Slot → Slot) → Server
@@ -364,6 +404,7 @@ sound-spent (authorization query decision farm handed) granted before after b a 
 sound-spent (token header body handed) true before after b a = a
 sound-spent (token header body handed) false before after b a =
     sound-replaced (codeIn body) freeSlot free-slot after a
+sound-spent (revocation header body clock output) granted before after b a = a
 sound-spent (check presented clock) granted before after b a = a
 
 sound-unanswered : (c : Call) (granted : Bool) (before after : Store) → SoundSample before → SoundSample after
@@ -371,6 +412,7 @@ sound-unanswered : (c : Call) (granted : Bool) (before after : Store) → SoundS
 unfolding spentUnanswered
 sound-unanswered (authorization query decision farm handed) granted before after b a = a
 sound-unanswered (token header body handed) granted before after b a = sound-spent (token header body handed) _ before after b a
+sound-unanswered (revocation header body clock output) granted before after b a = a
 sound-unanswered (check presented clock) granted before after b a = a
 
 sound-put : (c : Call) (granted : Bool) (before after : Store) → SoundSample before → SoundSample after
@@ -381,6 +423,7 @@ sound-put (token header body handed) true before after b a =
     let at = indexWhere (codeIn body) (before .slots) in
     sound-replaced (isVacant (after .time)) (slotOf before at) (b .slots at) after a
 sound-put (token header body handed) false before after b a = a
+sound-put (revocation header body clock output) granted before after b a = a
 sound-put (check presented clock) granted before after b a = a
 
 sound-unkept : (c : Call) (granted : Bool) (before after : Store) → SoundSample before → SoundSample after
@@ -390,6 +433,7 @@ sound-unkept (authorization query decision farm handed) granted before after b a
 sound-unkept (token header body handed) granted before after b a =
     cond-of SoundSample (isCredentials body) (withSlots after (before .slots)) after
     (λ _. record { size = b .size; early = a .early; slots = b .slots }) (λ _. a)
+sound-unkept (revocation header body clock output) granted before after b a = a
 sound-unkept (check presented clock) granted before after b a = a
 
 sound-unwithdrawn : (c : Call) (granted : Bool) (before after : Store) → SoundSample before → SoundSample after
@@ -404,13 +448,35 @@ unfolding withdrawn
 sound-withdrawn (authorization query decision farm handed) granted before after b a = a
 sound-withdrawn (token header body handed) true before after b a = a
 sound-withdrawn (token header body handed) false before after b a =
-    let from = comesFrom (readHandle (valueOf body (bytes "code")) .bytes) in
+    let from = comesFrom soughtToken (readHandle (valueOf body (bytes "code")) .bytes) in
     record {
       size = length-replaceAll freeSlot from (after .slots) ∙ a .size;
       early = a .early;
       slots = replaceAll-each freeSlot from (SoundSlot (length sampleClients)) free-slot (after .slots) (a .slots);
     }
+sound-withdrawn (revocation header body clock output) granted before after b a = a
 sound-withdrawn (check presented clock) granted before after b a = a
+
+-- slots that are sound, where those before and after are
+abbrev SoundSlots : List Slot → Type 0
+SoundSlots l = (length l ≡ slotCount) × AllSound (length sampleClients) l
+
+sound-revoked : (f : List ℕ → Bool → List Slot → List Slot → List Slot)
+    → ((body : List ℕ) (granted : Bool) (before after : List Slot) → SoundSlots before → SoundSlots after → SoundSlots (f body granted before after))
+    → (c : Call) (granted : Bool) (before after : Store) → SoundSample before → SoundSample after → SoundSample (revokedAs f c granted before after)
+unfolding revokedAs
+sound-revoked f sound (authorization query decision farm handed) granted before after b a = a
+sound-revoked f sound (token header body handed) granted before after b a = a
+sound-revoked f sound (revocation header body clock output) granted before after b a =
+    let s = sound body granted (before .slots) (after .slots) (b .size, b .slots) (a .size, a .slots) in
+    record { size = s .0; early = a .early; slots = s .1 }
+sound-revoked f sound (check presented clock) granted before after b a = a
+
+sound-freed : (p : Slot → Bool) (l : List Slot) → SoundSlots l → SoundSlots (replaceFirst p freeSlot l)
+sound-freed p l s = (
+  length-replaceFirst p freeSlot l ∙ s .0,
+  replaceFirst-each p freeSlot (SoundSlot (length sampleClients)) freeSlot free-slot l (s .1),
+)
 
 abbrev readingModel : (Call → Store → Store) → Model
 readingModel instead = record {
@@ -498,6 +564,7 @@ module _ (isGrantType : List ℕ → Bool) (f : List ℕ → Slot → Slot) (kee
             (keeps body (slotOf g k) (w .slots k));
       })
       (λ _. w)
+  sound-seen (revocation header body clock output) g w = w
   sound-seen (check presented clock) g w = w
 
   seeing-follows : Follows (seeing isGrantType f) (readingModel (seenAs isGrantType f))
@@ -553,6 +620,13 @@ shownAgain = authorizeAt 1000 0 ∷ exchangeAt 1500 ∷ tokenAt header (repeatin
 
 unfoldable pub shownByOther : List Call
 shownByOther = authorizeAt 1000 0 ∷ exchangeAt 1500 ∷ tokenAt [] (byBarnapp codeText) 1505 0x60 ∷ []
+
+-- its refresh token is revoked at 1505, and its access token by the other client
+unfoldable pub revoked : List Call
+revoked = authorizeAt 1000 0 ∷ exchangeAt 1500 ∷ revokeAt header (revoking refreshText) 1505 ∷ []
+
+unfoldable pub revokedByOther : List Call
+revokedByOther = authorizeAt 1000 0 ∷ exchangeAt 1500 ∷ revokeAt [] (barnRevoking accessText) 1505 ∷ []
 
 -- a refresh that asks for more than was granted, and one that asks for nothing
 unfoldable wider : List ℕ
@@ -640,6 +714,13 @@ record Computed : Type 0 where
   other-fits : every isFitting shownByOther ≡ true
   keeps : checkTests (leavingModel unwithdrawn) shownAgain passesWrongly accessText ≡ true
   withdraws : checkTests (leavingModel withdrawn) shownByOther passesWrongly accessText ≡ true
+  revoked-typed : every isTyped revoked ≡ true
+  revoked-fits : every isFitting revoked ≡ true
+  by-other-typed : every isTyped revokedByOther ≡ true
+  by-other-fits : every isFitting revokedByOther ≡ true
+  nothing-revoked : checkTests (leavingModel (revokedAs notRevoked)) revoked passesWrongly accessText ≡ true
+  access-left : checkTests (leavingModel (revokedAs accessLeft)) revoked passesWrongly accessText ≡ true
+  anyone-revokes : checkTests (leavingModel (revokedAs anyoneRevokes)) revokedByOther passesWrongly accessText ≡ true
   widens : tokenTests (readingModel (seenAs isRefresh wide)) exchanged refreshesWrongly wider 1510 0x60 ≡ true
   never : checkTests (answeringModel notPassed) exchanged passesWrongly accessText ≡ true
   itself-typed : every isTyped itself ≡ true
@@ -654,7 +735,7 @@ record Computed : Type 0 where
   refuses : tokenTests (stockModel false) [] credentialsWrongly (ownFor []) 1100 0x20 ≡ true
 
 computed : Computed
-unfolding verifies isVerifierFor readDigest isDigestText isSoundVerifier base64Text digit64 bigEndianBytes bigEndianFrom rotr ch maj bigSigma smallSigma roundConstants initialHash padding paddedMessage blockWords scheduleWord nextWord extended schedule firstSum secondSum round rounds added compressed hashed wordsBytes stateBytes digest isAnsweredBy challengeGiven isBadChallenge challengeAnswered firstWrong untouchedModel spent putBack unkept unwithdrawn withdrawn shownAgain shownByOther seenAs spentUnanswered challengedVisit challengeText verifying itself ownFor ownText wrongTry tried exchanged wider again unanswered challengeShown visit night handedAt authorizeAt header exchangeOf repeating byBarnapp tokenAt codeText accessText refreshText exchangeAt refreshFor isTyped unfitTo isFitting isNamedWrongly leftAfter eventsAfter rfcQuery handedTo asked outcomeOn withEvents withEvent isUnfit isUnfitDecision isUnfitRefusal isUnfitCheck isGranted lengthOf isPassed namedIn isLiveCheck namedBy standingAfter issuedBy codeIssue exchangeIssues refreshIssues ownIssue isSpentBy isSecondShowing codeShown isWithdrawnBy noIssue isWithinGranted noneBeyond askedOr namesOr isAdmitted idIn isRepeatedBy mayExchange mayRefresh mayHaveOwn mayPass twenties distinct keep count any firstOr replaceFirst replaceAll freeSlot fresh every same indexOf splitOn grow hexText hexDigit hexValue readHandle isHandleText unhex isBase64 base64Bytes groupBytes soundGroup sextet none encodeForm encodeByte decodeAfter firstByte extra isEscape plain wellFormed sound isWellFormedForm pieceName pieceValue gives add valueIn formValue names bitFrom bitOf union readScope chosen spaced scopeText indexWhere sampleClients sampleConfidential samplePublic isGrant isMissing isRepeated onlyValue isOnce askedBy scopeAsked fits scopeGiven isBadQuery queryClient isBadClient isBadRedirect isSoundState isBadState isInvalidRequest isOtherType isInvalidScope codeAsked pageReasons redirectReasons readAuthorization separator stateText location codeParameter errorParameter locationText isInvalidForm lowerCase sameAnyCase credentials isBadHeader headerId headerSecret presentedId presentedSecret isUnclearId isImpostor callClient isInvalidClient formReasons readExchange readRefresh readCredentials readGrant readToken wordText errorReply refusalReply tokenReply refreshMember challenges replyText firstOf unlessRefused refusedPlan codePlan exchangePlan refreshPlan credentialsPlan planFor slotsBy checkSlots serveAuthorization serveToken serveCheck
+unfolding revokedAs revoked revokedByOther revokeAt revoking barnRevoking isRevokedBy readRevocation revocationReply revocationPlan serveRevocation verifies isVerifierFor readDigest isDigestText isSoundVerifier base64Text digit64 bigEndianBytes bigEndianFrom rotr ch maj bigSigma smallSigma roundConstants initialHash padding paddedMessage blockWords scheduleWord nextWord extended schedule firstSum secondSum round rounds added compressed hashed wordsBytes stateBytes digest isAnsweredBy challengeGiven isBadChallenge challengeAnswered firstWrong untouchedModel spent putBack unkept unwithdrawn withdrawn shownAgain shownByOther seenAs spentUnanswered challengedVisit challengeText verifying itself ownFor ownText wrongTry tried exchanged wider again unanswered challengeShown visit night handedAt authorizeAt header exchangeOf repeating byBarnapp tokenAt codeText accessText refreshText exchangeAt refreshFor isTyped unfitTo isFitting isNamedWrongly leftAfter eventsAfter rfcQuery handedTo asked outcomeOn withEvents withEvent isUnfit isUnfitDecision isUnfitRefusal isUnfitCheck isGranted lengthOf isPassed namedIn isLiveCheck namedBy standingAfter issuedBy codeIssue exchangeIssues refreshIssues ownIssue isSpentBy isSecondShowing codeShown isWithdrawnBy noIssue isWithinGranted noneBeyond askedOr namesOr isAdmitted idIn isRepeatedBy mayExchange mayRefresh mayHaveOwn mayPass twenties distinct keep count any firstOr replaceFirst replaceAll freeSlot fresh every same indexOf splitOn grow hexText hexDigit hexValue readHandle isHandleText unhex isBase64 base64Bytes groupBytes soundGroup sextet none encodeForm encodeByte decodeAfter firstByte extra isEscape plain wellFormed sound isWellFormedForm pieceName pieceValue gives add valueIn formValue names bitFrom bitOf union readScope chosen spaced scopeText indexWhere sampleClients sampleConfidential samplePublic isGrant isMissing isRepeated onlyValue isOnce askedBy scopeAsked fits scopeGiven isBadQuery queryClient isBadClient isBadRedirect isSoundState isBadState isInvalidRequest isOtherType isInvalidScope codeAsked pageReasons redirectReasons readAuthorization separator stateText location codeParameter errorParameter locationText isInvalidForm lowerCase sameAnyCase credentials isBadHeader headerId headerSecret presentedId presentedSecret isUnclearId isImpostor callClient isInvalidClient formReasons readExchange readRefresh readCredentials readGrant readToken wordText errorReply refusalReply tokenReply refreshMember challenges replyText firstOf unlessRefused refusedPlan codePlan exchangePlan refreshPlan credentialsPlan planFor slotsBy checkSlots serveAuthorization serveToken serveCheck
 computed = record {
   visit-typed = refl;
   visit-fits = refl;
@@ -683,6 +764,13 @@ computed = record {
   other-fits = refl;
   keeps = refl;
   withdraws = refl;
+  revoked-typed = refl;
+  revoked-fits = refl;
+  by-other-typed = refl;
+  by-other-fits = refl;
+  nothing-revoked = refl;
+  access-left = refl;
+  anyone-revokes = refl;
   widens = refl;
   never = refl;
   itself-typed = refl;
@@ -760,6 +848,10 @@ pub record Useless : Type 0 where
   -- the check at 1510, of a token whose code was shown again by its client, and by another
   pub keeps-again : Refuted keepsTokens shownAgain
   pub withdraws-other : Refuted withdrawsForAnyone shownByOther
+  -- the check at 1510, of a token whose refresh token was revoked; and of one that another client would revoke
+  pub nothing-revoked : Refuted revokesNothing revoked
+  pub access-left : Refuted leavesAccess revoked
+  pub anyone-revokes : Refuted revokesForAnyone revokedByOther
   -- the refresh at 1510, which asks for more
   pub widens-exchanged : Refuted widensScope exchanged
   -- the exchange at 1100 of a code with a challenge: without a verifier, which yields, and which clears the slot; and with the challenge as verifier
@@ -777,7 +869,7 @@ pub record Useless : Type 0 where
   pub yields-none : Refuted yieldsAlways []
 
 pub useless : Useless
-unfolding inventedSeconds neverPasses writesNothing saysNoLength spendsOnRefusal codeTwice forgetsOwn keepsTokens withdrawsForAnyone yieldsAlways AllWellTyped every handedAt tokenAt wrongTry unanswered ignoresVerifier takesChallenge spendsUnanswered widensScope freeSlot
+unfolding inventedSeconds neverPasses writesNothing saysNoLength spendsOnRefusal codeTwice forgetsOwn keepsTokens withdrawsForAnyone revokesNothing leavesAccess revokesForAnyone yieldsAlways AllWellTyped every handedAt tokenAt wrongTry unanswered ignoresVerifier takesChallenge spendsUnanswered widensScope freeSlot
 useless =
     let visit-typed = tested-calls visit (computed .visit-typed) in
     let exchanged-typed = tested-calls exchanged (computed .exchanged-typed) in
@@ -818,6 +910,21 @@ useless =
       withdraws-other =
           pass-refuted (leaving-follows withdrawn sound-withdrawn) shownByOther (computed .other-typed) (computed .other-fits) accessText
           (computed .withdraws);
+      nothing-revoked =
+          pass-refuted (leaving-follows (revokedAs notRevoked) (sound-revoked notRevoked (λ body granted before after b a. b))) revoked
+          (computed .revoked-typed) (computed .revoked-fits) accessText (computed .nothing-revoked);
+      access-left =
+          pass-refuted
+          (leaving-follows (revokedAs accessLeft)
+          (sound-revoked accessLeft
+          (λ body granted before after b a.
+          cond-of SoundSlots granted _ after (λ _. sound-freed (tokenIn soughtRefresh body) before b) (λ _. a))))
+          revoked (computed .revoked-typed) (computed .revoked-fits) accessText (computed .access-left);
+      anyone-revokes =
+          pass-refuted
+          (leaving-follows (revokedAs anyoneRevokes)
+          (sound-revoked anyoneRevokes (λ body granted before after b a. sound-freed (tokenIn soughtToken body) after a)))
+          revokedByOther (computed .by-other-typed) (computed .by-other-fits) accessText (computed .anyone-revokes);
       widens-exchanged = record {
         typed = exchanged-typed;
         fails =
@@ -894,6 +1001,7 @@ module _ (registry : List ℕ) where
   unfolding isSecondShowing any
   nothing-shown t (authorization query decision farm handed) = refl
   nothing-shown t (token h b handed) = and-false (isAdmitted (clientsOf registry) h b && isExchange b)
+  nothing-shown t (revocation h b clock output) = refl
   nothing-shown t (check presented clock) = refl
 
   pub refusing-meets : (cs : List Call) → Demand3 refusesEveryone registry cs

@@ -2,7 +2,8 @@
 -- So every clause of the claim is used, and its premises are met; by what the calls contain, each says what our server does.
 --
 -- In order: what the claim speaks of (`judged`); its clauses, by what the calls contain; every case of
--- Examples (`decided`), which hold each 'exactly when' both ways; what is named and written, and a refused try, after calls of every kind.
+-- Examples (`decided`), which hold each 'exactly when' both ways; what is named, written and cleared, and a refused try, after calls of every
+-- kind; a token that is gone for good (`gone-for-good`).
 -- Assumes nothing.
 use mathlib.Core.Path.{_≡_, refl, sym, ap, ap₂, _∙_, subst}
 use mathlib.Core.Bool.{Bool, true, false, cond, _&&_, _||_, Bool·beq, false≢true}
@@ -11,7 +12,7 @@ use Prim.Native.Nat.{ℕ, _+_, _*_, _-_, _^_, _<_, max}
 use borrow.Author.Tests.{ltb-true}
 use lib.Dec.{ltb, lit<}
 use lib.Seq.{sets}
-use lib.ListN.{length, take, replicate}
+use lib.ListN.{length, take, replicate, getD}
 use Rattle.octets.specs.Text.{bytes}
 use Rattle.octets.specs.Lists.{part, every, same, indexOf, splitOn, grow}
 use Rattle.octets.specs.Search.{count, keep, indexWhere, any, firstOr}
@@ -31,22 +32,24 @@ use Rattle.protocol.specs.Requests.{askedBy, scopeAsked, unlessRefused}
 use Rattle.protocol.specs.Authorization.{location, codeParameter, isSoundState, separator, stateText}
 use Rattle.protocol.specs.ClientForms.{isInvalidForm, lowerCase, sameAnyCase, credentials, isBadHeader, headerId, headerSecret, presentedId, presentedSecret, isUnclearId, isImpostor, callClient, isInvalidClient, formReasons}
 use Rattle.protocol.specs.Token.{readToken, tokenReply, refreshMember, readExchange, readRefresh, readGrant}
-use Rattle.protocol.specs.Outcomes.{Handed}
+use Rattle.protocol.specs.Outcomes.{Handed, withoutRandom}
 use Rattle.protocol.proofs.Cases.{challenge}
 use Rattle.protocol.proofs.Starred.{countUp, rfcQuery}
-use Rattle.history.specs.Calls.{Call, authorization, token, check, WellTyped, AllWellTyped, Result, storeAfterAll, events, freshStore, handedTo}
-use Rattle.history.specs.Contents.{code, access, refresh, Issue, isA, isLiveAt, isOf, originOf, valueOf, isExchange, isRefresh, isCredentials, askedOr, idIn, caller, isAdmitted, isSecondShowing, codeShown, firstTwenty, lastTwenty, Contents, nothingYet, withEvents, twenties, noIssue, noneBeyond, isWithinGranted, namesOr}
+use Rattle.history.specs.Calls.{Call, authorization, token, revocation, check, WellTyped, AllWellTyped, Result, storeAfterAll, events, freshStore, handedTo}
+use Rattle.history.specs.Contents.{code, access, refresh, Issue, isA, isLiveAt, isOf, originOf, valueOf, isExchange, isRefresh, isCredentials, askedOr, idIn, caller, isAdmitted, isAdmittedToRevoke, isRevocable, issuedBy, isSecondShowing, codeShown, firstTwenty, lastTwenty, Contents, nothingYet, withEvents, twenties, noIssue, noneBeyond, isWithinGranted, namesOr}
 use Rattle.history.specs.Slots.{slotsInAll, holdsTokenFrom}
-use Rattle.history.specs.Claim.{mayExchange, mayRefresh, mayHaveOwn, mayPass, Answers, contained, next, Judged, Asks, Demand3, isRepeatedBy, isAnsweredBy, verifies}
+use Rattle.history.specs.Claim.{mayExchange, mayRefresh, mayHaveOwn, mayRevoke, isCleared, mayPass, Answers, contained, next, Judged, Asks, Demand3, isRepeatedBy, isAnsweredBy, verifies}
+use Rattle.history.specs.Revoked.{GotFrom, IsRevoked}
 use Rattle.history.specs.Server.{ours}
 use Rattle.history.proofs.SoundStores.{sound-fresh}
 use Rattle.history.proofs.AnyCall.{unfitTo}
 use Rattle.history.proofs.AllCalls.{fresh-bytes}
-use Rattle.history.proofs.Theorem.{demand3, credentials-yield}
+use Rattle.history.proofs.Theorem.{demand3, credentials-yield, revocations}
+use Rattle.history.proofs.ForGood.{revoked-for-good}
 use Rattle.history.proofs.CallsOnRecords.{resultOn, leftByAll, eventsOn, isFitting, Replayed, replay, replay-result, replay-fit}
 pub use Rattle.history.proofs.Sample.{sample-clients, sample-bytes}
 use Rattle.history.proofs.Sample.{sample-fit, tested-bytes, distinct-never}
-use Rattle.history.proofs.Examples.{barnTry, challengeText, inVisit, asking, exchangeAt, authorizeAt, codeText, lessText, refreshText, againText, barnQuery, barnAccess, barnBody, handedAt, header, codedHeader, exchangeOf, repeating, tokenAt, refreshFor, visit, day, evening, leak, Case, Cases, cases, yields, may, isTyped, isAsked, isJudged, leftIn, containedIn, inDay, inEvening, inLeak, claimAgrees, agreesOn, agrees, computed, accessText, barnCode, barnText, barnToken, codeUntil, redirect, tokenUntil, ownFor, ownText, lessOwnText, pumps, ownUntil, inPumps}
+use Rattle.history.proofs.Examples.{exchangeVisit, inExchangeVisit, gone, revokeAt, revoking, barnRevoking, farewell, inFarewell, barnTry, challengeText, inVisit, asking, exchangeAt, authorizeAt, codeText, lessText, refreshText, againText, barnQuery, barnAccess, barnBody, handedAt, header, codedHeader, exchangeOf, repeating, tokenAt, refreshFor, visit, day, evening, leak, Case, Cases, cases, yields, may, isTyped, isAsked, isJudged, leftIn, containedIn, inDay, inEvening, inLeak, claimAgrees, agreesOn, agrees, computed, accessText, barnCode, barnText, barnToken, codeUntil, redirect, tokenUntil, ownFor, ownText, lessOwnText, pumps, ownUntil, inPumps}
 
 -- ---- what the claim speaks of
 
@@ -57,6 +60,7 @@ tested-call (authorization query decision farm handed) e =
     let r = every (λ b. ltb b 256) (handed .random) in
     (ltb-true farm (2 ^ 32) (and-left f r e), tested-bytes (handed .random) (and-right f r e))
 tested-call (token h b handed) e = tested-bytes (handed .random) e
+tested-call (revocation h b clock output) e = tt
 tested-call (check presented clock) e = tt
 
 pub tested-calls : (cs : List Call) → every isTyped cs ≡ true → AllWellTyped cs
@@ -198,6 +202,34 @@ module _ (run : Run) where
         subst (λ (clients : List Client). Answers handed (after asks) (tokenReply (firstTwenty (handed .random)) [] (scope clients))) sample-clients
         (claims .credentialsReplies h b handed well-asked e granted)
 
+  pub by-revokes : (h b : List ℕ) (clock : ℕ) (output : List ℕ) → isJudged k (revocation h b clock output) ≡ true
+      → after (revocation h b clock output) .granted
+      ≡ (isAdmittedToRevoke sampleClients h b && mayRevoke sampleClients (max clock (k .highest)) (k .standing) h b)
+  by-revokes h b clock output j =
+      let done : List Client → Contents → Bool = λ clients c.
+      isAdmittedToRevoke clients h b && mayRevoke clients (max clock (c .highest)) (c .standing) h b
+      in
+      revocations sampleRegistry sample-bytes cs typed .done h b clock output (judged (revocation h b clock output) j) ∙ ap₂ done sample-clients contents-are
+
+  by-revocation-replies : (h b : List ℕ) (clock : ℕ) (output : List ℕ) → isJudged k (revocation h b clock output) ≡ true
+      → after (revocation h b clock output) .granted ≡ true → Answers (withoutRandom clock output) (after (revocation h b clock output)) []
+  by-revocation-replies h b clock output j granted =
+      revocations sampleRegistry sample-bytes cs typed .replies h b clock output (judged (revocation h b clock output) j) granted
+
+  by-clears : (h b : List ℕ) (clock : ℕ) (output : List ℕ) → isJudged k (revocation h b clock output) ≡ true
+      → after (revocation h b clock output) .granted ≡ true → (i : ℕ) → i < slotsInAll
+      → let slot = part (encodeStore (leftIn cs)) (8 + i * 67) 67 in
+      part (after (revocation h b clock output) .store) (8 + i * 67) 67
+      ≡ cond (isCleared sampleClients (max clock (k .highest)) (k .standing) h b slot) (replicate 67 0) slot
+  by-clears h b clock output j granted i below =
+      let Left : List Client → Contents → List ℕ → List ℕ = λ clients c left.
+      let slot = part left (8 + i * 67) 67 in
+      cond (isCleared clients (max clock (c .highest)) (c .standing) h b slot) (replicate 67 0) slot
+      in
+      revocations sampleRegistry sample-bytes cs typed .clears h b clock output (judged (revocation h b clock output) j) granted i below
+      ∙ ap (λ (l : List ℕ). Left (clientsOf sampleRegistry) (contained ours sampleRegistry cs) l) store-is
+      ∙ ap₂ (λ (clients : List Client) (c : Contents). Left clients c (encodeStore (leftIn cs))) sample-clients contents-are
+
   pub by-passes : (presented : List ℕ) (clock : ℕ) → isJudged k (check presented clock) ≡ true
       → after (check presented clock) .passed ≡ mayPass (max clock (k .highest)) (k .standing) presented
   by-passes presented clock j =
@@ -253,6 +285,7 @@ module _ (run : Run) where
       by true y e f = by-exchanges h b handed a j e
       by false true e f = by-refreshes h b handed a j f
       by false false e f = by-credentials h b handed a j (ap (λ (z : Bool). z || isCredentials b) (sym f) ∙ asked-other h b handed a j e)
+  claimed (revocation h b clock output) a j = by-revokes h b clock output j
   claimed (check presented clock) a j = by-passes presented clock j
 
 -- ---- every case of Examples
@@ -280,7 +313,7 @@ decided l in-cases k in-judged =
     (and-left (isAsked c) (isJudged (containedIn cs) c && said) claim) (and-left (isJudged (containedIn cs) c) said rest)
     ∙ of-T-equal (may (containedIn cs) c) (k .paper) (to-T (and-right (isJudged (containedIn cs) c) said rest))
 
--- ---- what is named and written, and a refused try, after calls of every kind
+-- ---- what is named, written and cleared, and a refused try, after calls of every kind
 
 -- the answer is what is written up to its length
 abbrev pub textIn : Result → List ℕ
@@ -305,6 +338,11 @@ pub record OwnAsked (h b : List ℕ) (paper : Bool) : Type 0 where
   pub asked : isAsked (asking h b 1510) ≡ true
   pub judged : isJudged inVisit (asking h b 1510) ≡ true
   pub says : mayHaveOwn sampleClients (max 1510 (inVisit .highest)) (inVisit .standing) h b ≡ paper
+
+-- a revocation after calls that contain k, likewise
+pub record RevocationOf (k : Contents) (clock : ℕ) (h b : List ℕ) (paper : Bool) : Type 0 where
+  pub judged : isJudged k (revokeAt h b clock) ≡ true
+  pub says : (isAdmittedToRevoke sampleClients h b && mayRevoke sampleClients (max clock (k .highest)) (k .standing) h b) ≡ paper
 
 pub record Shown : Type 0 where
   -- "The code is live at 1599, not at 1600."
@@ -356,15 +394,34 @@ pub record Shown : Type 0 where
   pub kept-spent : part (afterDay (asking header (exchangeOf codeText) 1510) .store) 8 67
       ≡ 5 ∷ countUp 20 0 ++ 0 ∷ 0 ∷ 0 ∷ 0 ∷ 7 ∷ 11 ∷ 0 ∷ 0 ∷ 0 ∷ 0 ∷ 0 ∷ 0 ∷ 6 ∷ 64 ∷ replicate 32 0
   pub withdrawn : next ours sampleRegistry leak (check accessText 1601) .passed ≡ false
+  -- the refresh token is revoked, by its client and not by another: the slots of both access tokens and its own are zero, that of the
+  -- spent code keeps its bytes, nothing is written, and the token no longer passes, "also in the hour that the clock repeats"
+  pub revocation-own : RevocationOf inDay 1510 header (revoking refreshText) true
+  pub revocation-other : RevocationOf inDay 1510 [] (barnRevoking refreshText) false
+  pub revoked-slot : part (afterDay (revokeAt header (revoking refreshText) 1510) .store) (8 + 2 * 67) 67 ≡ replicate 67 0
+  pub revoked-access : part (afterDay (revokeAt header (revoking refreshText) 1510) .store) (8 + 67) 67 ≡ replicate 67 0
+  pub revoked-again : part (afterDay (revokeAt header (revoking refreshText) 1510) .store) (8 + 3 * 67) 67 ≡ replicate 67 0
+  pub unrevoked-code : part (afterDay (revokeAt header (revoking refreshText) 1510) .store) 8 67
+      ≡ 5 ∷ countUp 20 0 ++ 0 ∷ 0 ∷ 0 ∷ 0 ∷ 7 ∷ 11 ∷ 0 ∷ 0 ∷ 0 ∷ 0 ∷ 0 ∷ 0 ∷ 6 ∷ 64 ∷ replicate 32 0
+  pub revocation-reply : textIn (afterDay (revokeAt header (revoking refreshText) 1510)) ≡ []
+  pub revoked : next ours sampleRegistry farewell (check accessText 0) .passed ≡ false
+  -- the visit's code is exchanged at 1500, and the refresh token revoked at 1505
+  pub at-1500 : ExchangeAt 1500 true
+  pub fits-1500 : isFitting (exchangeAt 1500) ≡ true
+  pub revocation-1505 : RevocationOf inExchangeVisit 1505 header (revoking refreshText) true
+  pub own-1505 : isRevocable sampleClients (max 1505 (inExchangeVisit .highest)) header (revoking refreshText) (tokenUntil refresh refreshText 11 2593500) ≡ true
 
 unfoldable pub theVisit : Run
 theVisit = record { calls = visit; typed = computed .visit-typed; contents = inVisit; contains = computed .visit-contains }
 
-pub theDay : Run
+unfoldable pub theDay : Run
 theDay = record { calls = day; typed = computed .day-typed; contents = inDay; contains = computed .day-contains }
 
 pub theEvening : Run
 theEvening = record { calls = evening; typed = computed .evening-typed; contents = inEvening; contains = computed .evening-contains }
+
+pub theFarewell : Run
+theFarewell = record { calls = farewell; typed = computed .farewell-typed; contents = inFarewell; contains = computed .farewell-contains }
 
 pub theLeak : Run
 theLeak = record { calls = leak; typed = computed .leak-typed; contents = inLeak; contains = computed .leak-contains }
@@ -372,8 +429,34 @@ theLeak = record { calls = leak; typed = computed .leak-typed; contents = inLeak
 pub thePumps : Run
 thePumps = record { calls = pumps; typed = computed .pumps-typed; contents = inPumps; contains = computed .pumps-contain }
 
+-- a revocation after the day that is done
+abbrev daySlot : ℕ → List ℕ
+daySlot i = part (encodeStore (leftIn day)) (8 + i * 67) 67
+
+module _ {h b : List ℕ} (e : RevocationOf inDay 1510 h b true) where
+  abbrev revokes : Call
+  revokes = revokeAt h b 1510
+
+  day-done : afterDay revokes .granted ≡ true
+  unfolding theDay revokeAt
+  day-done = by-revokes theDay h b 1510 (replicate 1024 0) (e .judged) ∙ e .says
+
+  day-cleared : (i : ℕ) → i < slotsInAll
+      → part (afterDay revokes .store) (8 + i * 67) 67
+      ≡ cond (isCleared sampleClients (max 1510 (inDay .highest)) (inDay .standing) h b (daySlot i)) (replicate 67 0) (daySlot i)
+  unfolding theDay revokeAt
+  day-cleared = by-clears theDay h b 1510 (replicate 1024 0) (e .judged) day-done
+
+  day-reply : textIn (afterDay revokes) ≡ []
+  unfolding theDay revokeAt
+  day-reply = answers-text (by-revocation-replies theDay h b 1510 (replicate 1024 0) (e .judged) day-done)
+
+-- one of the first slots, by whether it goes with the refresh token
+abbrev leftOf : ℕ → List Bool → List ℕ
+leftOf i goes = cond (getD goes i false) (replicate 67 0) (daySlot i)
+
 pub shown : Shown
-unfolding theLeak inLeak isSecondShowing codeShown mayPass thePumps ownFor ownText lessOwnText ownUntil inPumps mayHaveOwn theVisit theDay theEvening inVisit barnText redirect codeUntil tokenUntil barnCode inDay barnBody barnToken barnAccess inEvening isTyped isAsked isJudged handedAt authorizeAt header exchangeOf repeating tokenAt codeText accessText refreshText exchangeAt refreshFor barnQuery againText lessText rfcQuery handedTo unfitTo isFitting noIssue noneBeyond isWithinGranted namesOr askedOr twenties idIn isAdmitted isRepeatedBy isAnsweredBy verifies barnTry challengeText mayExchange mayRefresh distinct count any firstOr every same indexOf splitOn grow hexText hexDigit hexValue isBase64 base64Bytes groupBytes soundGroup sextet none decodeAfter firstByte extra isEscape plain wellFormed sound encode encodeByte isWellFormedForm pieceName pieceValue gives add valueIn formValue names bitFrom bitOf union readScope chosen spaced scopeText indexWhere sampleClients sampleConfidential samplePublic isMissing isRepeated onlyValue isOnce askedBy scopeAsked isSoundState separator stateText location codeParameter isInvalidForm lowerCase sameAnyCase credentials isBadHeader headerId headerSecret presentedId presentedSecret isUnclearId isImpostor callClient isInvalidClient formReasons readExchange readRefresh readGrant readToken tokenReply refreshMember firstOf unlessRefused
+unfolding inExchangeVisit revokeAt revoking barnRevoking theFarewell inFarewell isAdmittedToRevoke mayRevoke theLeak inLeak isSecondShowing codeShown mayPass thePumps ownFor ownText lessOwnText ownUntil inPumps mayHaveOwn theVisit theDay theEvening inVisit barnText redirect codeUntil tokenUntil barnCode inDay barnBody barnToken barnAccess inEvening isTyped isAsked isJudged handedAt authorizeAt header exchangeOf repeating tokenAt codeText accessText refreshText exchangeAt refreshFor barnQuery againText lessText rfcQuery handedTo unfitTo isFitting noIssue noneBeyond isWithinGranted namesOr askedOr twenties idIn isAdmitted isRepeatedBy isAnsweredBy verifies barnTry challengeText mayExchange mayRefresh distinct count any firstOr every same indexOf splitOn grow hexText hexDigit hexValue isBase64 base64Bytes groupBytes soundGroup sextet none decodeAfter firstByte extra isEscape plain wellFormed sound encode encodeByte isWellFormedForm pieceName pieceValue gives add valueIn formValue names bitFrom bitOf union readScope chosen spaced scopeText indexWhere sampleClients sampleConfidential samplePublic isMissing isRepeated onlyValue isOnce askedBy scopeAsked isSoundState separator stateText location codeParameter isInvalidForm lowerCase sameAnyCase credentials isBadHeader headerId headerSecret presentedId presentedSecret isUnclearId isImpostor callClient isInvalidClient formReasons readExchange readRefresh readGrant readToken tokenReply refreshMember firstOf unlessRefused
 shown = record {
   in-time = record { exchange = refl; asked = refl; judged = refl; says = refl };
   too-late = record { exchange = refl; asked = refl; judged = refl; says = refl };
@@ -450,4 +533,75 @@ shown = record {
       ∙ ap (λ (b : Bool). cond b (replicate 67 0) (part (encodeStore (leftIn day)) 8 67)) (computed .none-held)
       ∙ computed .code-spent;
   withdrawn = by-passes theLeak accessText 1601 refl;
+  revocation-own = record { judged = refl; says = refl };
+  revocation-other = record { judged = refl; says = refl };
+  revoked-slot = day-cleared (record { judged = refl; says = refl }) 2 (lit< tt) ∙ ap (leftOf 2) (computed .goes-with);
+  revoked-access = day-cleared (record { judged = refl; says = refl }) 1 (lit< tt) ∙ ap (leftOf 1) (computed .goes-with);
+  revoked-again = day-cleared (record { judged = refl; says = refl }) 3 (lit< tt) ∙ ap (leftOf 3) (computed .goes-with);
+  unrevoked-code = day-cleared (record { judged = refl; says = refl }) 0 (lit< tt) ∙ ap (leftOf 0) (computed .goes-with) ∙ computed .code-spent;
+  revocation-reply = day-reply (record { judged = refl; says = refl });
+  revoked = by-passes theFarewell accessText 0 refl;
+  at-1500 = record { exchange = refl; asked = refl; judged = refl; says = refl };
+  fits-1500 = refl;
+  revocation-1505 = record { judged = refl; says = refl };
+  own-1505 = refl;
 }
+
+-- ---- gone for good: the code is exchanged at 1500, the client revokes the refresh token at 1505, and the clock is set back
+
+pub theExchange : Run
+theExchange = record { calls = exchangeVisit; typed = computed .exchange-typed; contents = inExchangeVisit; contains = computed .exchange-contains }
+
+pub theGone : Run
+theGone = record { calls = gone; typed = computed .gone-typed; contents = containedIn gone; contains = refl }
+
+-- the access token was got by the exchange
+pub got-access : GotFrom ours sampleRegistry exchangeVisit codeText accessText
+unfolding exchangeVisit theVisit visit inVisit tokenUntil exchangeAt tokenAt handedAt handedTo isJudged
+got-access =
+    let c = exchangeAt 1500 in
+    let e = shown .at-1500 in
+    let token = tokenUntil access accessText 11 5100 in
+    let issues : List Client → Contents → Result → List Issue = λ clients k r. issuedBy clients (max 1500 (k .highest)) (k .standing) c r in
+    let are =
+    ap₂ (λ (clients : List Client) (k : Contents). issues clients k (next ours sampleRegistry visit c)) sample-clients (contents-are theVisit)
+    ∙ ap (λ (r : Result). issues sampleClients inVisit r) (result-is theVisit c (shown .fits-1500))
+    ∙ computed .exchange-issues
+    in
+    record {
+      before = visit;
+      call = c;
+      behind = [];
+      among = refl;
+      seen = judged theVisit c (e .judged) .fit;
+      granted = by-exchanges theVisit header (repeating codeText) (handedAt 1500 40 0x20) (e .asked) (e .judged) (e .exchange) ∙ e .says;
+      issue = token;
+      issued = subst (λ (l : List Issue). List·Memᴰ token l) (sym are) (List·Memᴰ·tail (List·Memᴰ·head refl));
+      isAccess = refl;
+      shown = refl;
+      from = refl;
+    }
+
+-- the client revokes the refresh token
+pub is-revoked : IsRevoked ours sampleRegistry exchangeVisit codeText header (revoking refreshText) 1505 (replicate 1024 0)
+unfolding theExchange inExchangeVisit tokenUntil revokeAt
+is-revoked =
+    let token = tokenUntil refresh refreshText 11 2593500 in
+    let e = shown .revocation-1505 in
+    let own : List Client → Contents → Bool = λ clients k. isRevocable clients (max 1505 (k .highest)) header (revoking refreshText) token in
+    record {
+      token = token;
+      stands = subst (λ (k : Contents). List·Memᴰ token (k .standing)) (sym (contents-are theExchange)) (List·Memᴰ·head refl);
+      own = ap₂ own sample-clients (contents-are theExchange) ∙ shown .own-1505;
+      isRefresh = refl;
+      from = refl;
+      seen = judged theExchange (revokeAt header (revoking refreshText) 1505) (e .judged) .fit;
+      done = by-revokes theExchange header (revoking refreshText) 1505 (replicate 1024 0) (e .judged) ∙ e .says;
+    }
+
+-- so the access token does not pass, whatever the clock says
+pub gone-for-good : next ours sampleRegistry gone (check accessText 1000) .passed ≡ false
+unfolding gone revokeAt theGone
+gone-for-good =
+    revoked-for-good sampleRegistry sample-bytes exchangeVisit codeText header (revoking refreshText) 1505 (replicate 1024 0) is-revoked accessText
+    got-access [] (typed theGone) 1000 (judged theGone (check accessText 1000) (computed .gone-judged))

@@ -18,10 +18,11 @@ use Rattle.client_registry.specs.Lookup.{clientAt}
 use Rattle.token_store.specs.Store.{Store, callTime}
 use Rattle.protocol.specs.declared.Input.{Input}
 use Rattle.protocol.specs.Authorization.{queryClient, locationText}
+use Rattle.protocol.specs.Revocation.{revocationReply}
 use Rattle.protocol.specs.Granting.{firstHandle, decisionOn}
-use Rattle.protocol.specs.Outcomes.{Outcome, serveAuthorization, replyText, serveToken, serveCheck}
-use Rattle.protocol.proofs.Lengths.{location-fits, reply-fits}
-use Rattle.history.specs.Calls.{Call, authorization, token, check, handedTo}
+use Rattle.protocol.specs.Outcomes.{Outcome, serveAuthorization, replyText, serveToken, withoutRandom, serveRevocation, serveCheck}
+use Rattle.protocol.proofs.Lengths.{location-fits, reply-fits, revocation-fits}
+use Rattle.history.specs.Calls.{Call, authorization, token, revocation, check, handedTo}
 use Rattle.history.specs.Server.{Answer, lengthOf}
 use Rattle.history.specs.AnyStore.{unfitAnswer, unfitOutcome}
 use Rattle.history.proofs.AnyCall.{outcomeOn, unfitTo, planOn, asked}
@@ -61,19 +62,23 @@ textOn clients g (authorization query decision farm handed) =
     locationText redirect (formValue query (bytes "state")) (firstHandle (handed .random)) (decisionOn plan)
 textOn clients g (token header body handed) =
     let plan = planOn clients g (token header body handed) in replyText (handed .random) plan (decisionOn plan)
+textOn clients g (revocation header body clock output) = revocationReply (decisionOn (planOn clients g (revocation header body clock output)))
 textOn clients g (check presented clock) = []
 
 module _ (clients : List Client) (short : (n : ℕ) → length (clientAt clients n .redirect) ≤ redirectRoom) (g : Store) where
   pub written-on : (c : Call) → unfitTo c ≡ false → Written (handedTo c .output) (outcomeOn clients g c) (textOn clients g c)
-  unfolding unfitTo handedTo outcomeOn serveAuthorization serveToken serveCheck lengthOf asked textOn
+  unfolding unfitTo handedTo outcomeOn serveAuthorization serveToken serveRevocation serveCheck lengthOf asked textOn
   written-on (authorization query decision farm handed) e =
       record { put = refl; long = refl; fits = location-fits handed clients (callTime g (handed .clock)) (g .slots) query decision farm short e }
   written-on (token header body handed) e =
       record { put = refl; long = refl; fits = reply-fits handed clients (callTime g (handed .clock)) (g .slots) header body e }
+  written-on (revocation header body clock output) e =
+      record { put = refl; long = refl; fits = revocation-fits (withoutRandom clock output) clients (callTime g clock) (g .slots) header body e }
   written-on (check presented clock) e = record { put = refl; long = refl; fits = omega arith }
 
 pub unfit-written : (store : List ℕ) (c : Call) (i : Input) → Written (handedTo c .output) (unfitOutcome store c i) []
 unfolding unfitAnswer lengthOf
 unfit-written store (authorization query decision farm handed) i = record { put = refl; long = refl; fits = omega arith }
 unfit-written store (token header body handed) i = record { put = refl; long = refl; fits = omega arith }
+unfit-written store (revocation header body clock output) i = record { put = refl; long = refl; fits = omega arith }
 unfit-written store (check presented clock) i = record { put = refl; long = refl; fits = omega arith }

@@ -32,20 +32,24 @@ use Rattle.protocol.specs.Answers.{inputNumber, refusalStatus}
 use Rattle.protocol.specs.Authorization.{queryClient, locationText}
 use Rattle.protocol.specs.Token.{refusalReply, challenges}
 use Rattle.protocol.specs.Outcomes.{Handed, Outcome}
-use Rattle.history.specs.Calls.{Call, authorization, token, check, handedTo}
+use Rattle.history.specs.Calls.{Call, authorization, token, revocation, check, handedTo}
 use Rattle.history.specs.Contents.{valueOf, isExchange, caller, isAdmitted, codeShown}
 use Rattle.history.specs.Slots.{isTextOf, holdsTokenFrom}
 use Rattle.history.specs.Server.{Answer, authorizationAnswer, tokenAnswer, checkAnswer, outcomeOf, isUnfit, isGranted, lengthOf}
 
 -- ---- unfit inputs: refusals 1 to 4
 
--- "output below 1,024, or random bytes not 20 (token: 40)"
+-- "output below 1,024, or random bytes not 20 (token: 40)"; of a revocation "refusal 1 is for the output alone"
+abbrev pub outputUnfit : List ℕ → Bool
+outputUnfit output = ltb (length output) 1024
+
 abbrev pub handedUnfit : ℕ → Handed → Bool
-handedUnfit random handed = ltb (length (handed .output)) 1024 || not (eqb (length (handed .random)) random)
+handedUnfit random handed = outputUnfit (handed .output) || not (eqb (length (handed .random)) random)
 
 unfoldable pub buffersUnfit : Call → Bool
 buffersUnfit (authorization query decision farm handed) = handedUnfit 20 handed
 buffersUnfit (token header body handed) = handedUnfit 40 handed
+buffersUnfit (revocation header body clock output) = outputUnfit output
 buffersUnfit (check presented clock) = false
 
 abbrev pub inputs : List Input
@@ -66,10 +70,14 @@ pub record FirstUnfit (registry store : List ℕ) (c : Call) (i : Input) : Type 
   pub unfit : isUnfitInput registry store c i ≡ true
   pub first : (j : Input) → inputNumber j < inputNumber i → isUnfitInput registry store c j ≡ false
 
--- the answer: a number alone, with length 0 and no challenge
+-- the answer: a number alone, with length 0 and no challenge, where there is one
+abbrev pub unfitToken : Input → Answer
+unfitToken i = tokenAnswer (record { decision = Refuse (Unfit i); challenge = false; length = 0 })
+
 unfoldable pub unfitAnswer : Call → Input → Answer
 unfitAnswer (authorization query decision farm handed) i = authorizationAnswer (record { decision = Refuse (Unfit i); length = 0 })
-unfitAnswer (token header body handed) i = tokenAnswer (record { decision = Refuse (Unfit i); challenge = false; length = 0 })
+unfitAnswer (token header body handed) i = unfitToken i
+unfitAnswer (revocation header body clock output) i = unfitToken i
 unfitAnswer (check presented clock) i = checkAnswer (Refused (Unfit i))
 
 -- and nothing is written
@@ -89,12 +97,17 @@ unfoldable pub refusalText : List Client → Call → Refusal → List ℕ
 refusalText clients (authorization query decision farm handed) r =
     locationText (clientAt clients (queryClient clients query) .redirect) (formValue query (bytes "state")) [] (Refuse r)
 refusalText clients (token header body handed) r = refusalReply r
+refusalText clients (revocation header body clock output) r = refusalReply r
 refusalText clients (check presented clock) r = []
+
+-- an answer to a call that may have come with a header
+abbrev pub refusedToken : List ℕ → Refusal → ℕ → Answer
+refusedToken header r long = tokenAnswer (record { decision = Refuse r; challenge = challenges (refusalStatus r) header; length = long })
 
 unfoldable pub refusalAnswer : Call → Refusal → ℕ → Answer
 refusalAnswer (authorization query decision farm handed) r long = authorizationAnswer (record { decision = Refuse r; length = long })
-refusalAnswer (token header body handed) r long =
-    tokenAnswer (record { decision = Refuse r; challenge = challenges (refusalStatus r) header; length = long })
+refusalAnswer (token header body handed) r long = refusedToken header r long
+refusalAnswer (revocation header body clock output) r long = refusedToken header r long
 refusalAnswer (check presented clock) r long = checkAnswer (Refused r)
 
 -- ---- the one refusal that changes more: "the same client, authenticated, presents a live spent code (sought only where no unspent
@@ -117,6 +130,7 @@ isShownTwice clients store (token header body handed) =
     let t = max (handed .clock) (bigEndian (take timeSize store)) in
     isAdmitted clients header body && isExchange body
     && (not (any (isUnspent text) slots) && (ltb t (spent .expiry) && eqb (spent .client) (caller clients header body)))
+isShownTwice clients store (revocation header body clock output) = false
 isShownTwice clients store (check presented clock) = false
 
 -- "every token with that origin is cleared": its slot is zero, and no other byte changes

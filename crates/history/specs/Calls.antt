@@ -7,24 +7,27 @@ use lib.ListN.{replicate}
 use Rattle.octets.specs.Lists.{Bytes}
 use Rattle.token_store.specs.Layout.{storeSize}
 use Rattle.protocol.specs.declared.LiveToken.{LiveToken}
-use Rattle.protocol.specs.Outcomes.{Handed, clockAlone}
+use Rattle.protocol.specs.Outcomes.{Handed, withoutRandom, clockAlone}
 
 -- a call, by all that it is handed but the registry and the store
 pub data Call : Type 0 where
   authorization : (query : List ℕ) (decision farm : ℕ) (handed : Handed) → Call
   token : (header body : List ℕ) (handed : Handed) → Call
+  revocation : (header body : List ℕ) (clock : ℕ) (output : List ℕ) → Call
   check : (presented : List ℕ) (clock : ℕ) → Call
 
 -- its clock, random bytes and output
 unfoldable pub handedTo : Call → Handed
 handedTo (authorization query decision farm handed) = handed
 handedTo (token header body handed) = handed
+handedTo (revocation header body clock output) = withoutRandom clock output
 handedTo (check presented clock) = clockAlone clock
 
 -- a host hands over random bytes that are bytes, and a farm number of 32 bits; nothing else is asked of a call
 abbrev pub WellTyped : Call → Type 0
 WellTyped (authorization query decision farm handed) = (farm < 2 ^ 32) × Bytes (handed .random)
 WellTyped (token header body handed) = Bytes (handed .random)
+WellTyped (revocation header body clock output) = Unit {0}
 WellTyped (check presented clock) = Unit {0}
 
 unfoldable pub AllWellTyped : List Call → Type 0

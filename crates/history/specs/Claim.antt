@@ -1,7 +1,7 @@
 -- Demand 3: one claim about every list of calls, and any server; at the end what is claimed beyond it.
 use Prim.Native.Nat.{ℕ, _+_, _-_, _*_, _<_, max}
 use mathlib.Core.Path.{_≡_}
-use mathlib.Core.Bool.{Bool, true, false, cond, _&&_, _||_}
+use mathlib.Core.Bool.{Bool, true, false, cond, not, _&&_, _||_}
 use mathlib.Core.List.{List, [], _++_, List·Memᴰ}
 use lib.Dec.{leb, eqb}
 use lib.ListN.{length, replicate}
@@ -16,10 +16,10 @@ use Rattle.client_registry.specs.Registry.{Client, clientsOf}
 use Rattle.client_registry.specs.Lookup.{numberOf, clientAt}
 use Rattle.protocol.specs.Authorization.{location, codeParameter}
 use Rattle.protocol.specs.Token.{tokenReply, refreshMember}
-use Rattle.protocol.specs.Outcomes.{Handed}
-use Rattle.history.specs.Calls.{Call, authorization, token, check, handedTo, Result, Server, storeAfterAll, events, freshStore}
-use Rattle.history.specs.Slots.{slotsInAll, holdsTokenFrom}
-use Rattle.history.specs.Contents.{code, access, refresh, Issue, isA, isLiveAt, isOf, originOf, valueOf, isExchange, isRefresh, isCredentials, isWithinGranted, askedOr, caller, isAdmitted, isSecondShowing, codeShown, firstTwenty, lastTwenty, Contents, nothingYet, withEvents, twenties, NeverTwice}
+use Rattle.protocol.specs.Outcomes.{Handed, withoutRandom}
+use Rattle.history.specs.Calls.{Call, authorization, token, revocation, check, handedTo, Result, Server, storeAfterAll, events, freshStore}
+use Rattle.history.specs.Slots.{slotsInAll, holdsAccess, holdsToken, hasText, cameFrom, holdsTokenFrom}
+use Rattle.history.specs.Contents.{code, access, refresh, Issue, isA, isLiveAt, isToken, isOf, originOf, valueOf, isExchange, isRefresh, isCredentials, isWithinGranted, askedOr, caller, isAdmitted, isAdmittedToRevoke, isSecondShowing, codeShown, isRevocable, firstTwenty, lastTwenty, Contents, nothingYet, withEvents, twenties, NeverTwice}
 
 -- ---- what the calls must contain
 
@@ -84,6 +84,19 @@ module _ (clients : List Client) (t : ℕ) (standing : List Issue) (header body 
   mayHaveOwn =
       let client = clientAt clients (caller clients header body) in
       client .confidential && isWithinGranted (formValue body (bytes "scope")) (client .scope) && hasRoomFor 1 t standing
+
+  -- "a live token of another client is `invalid_grant`": a live one that is shown is the caller's
+  unfoldable pub mayRevoke : Bool
+  mayRevoke =
+      not (any (λ e. isLiveAt t e && (isToken e && isOf (valueOf body (bytes "token")) e && not (eqb (e .client) (caller clients header body)))) standing)
+
+  -- by a slot's bytes: what is cleared with a token that is revoked, itself, or "a refresh token together with all access tokens of its
+  -- origin"
+  abbrev pub isCleared : List ℕ → Bool
+  isCleared slot =
+      any (λ e.
+      isRevocable clients t header body e
+      && (holdsToken slot && hasText (e .text) slot || isA refresh e && (holdsAccess slot && cameFrom (e .origin) slot))) standing
 
 -- "a live issue of it as an access token"
 unfoldable pub mayPass : ℕ → List Issue → List ℕ → Bool
@@ -170,8 +183,7 @@ module _ (server : Server) (registry : List ℕ) (cs : List Call) where
         Answers handed (next (authorization query decision farm handed)) (location redirect parameter (formValue query (bytes "state")))
     -- "A refused try spends nothing": "after a refused try every slot keeps its bytes", each of 67 bytes, behind the mark. "its last
     -- sentence excepts that one refusal, which clears those tokens and nothing else"
-    pub spendsNothing : (c : Call) → Judged c → next c .granted ≡ false
-        → (i : ℕ) → i < slotsInAll
+    pub spendsNothing : (c : Call) → Judged c → next c .granted ≡ false → (i : ℕ) → i < slotsInAll
         → let slot = part store (8 + i * 67) 67 in
         let clears = isSecondShowing clients (timeAt (handedTo c .clock)) standing c && holdsTokenFrom (codeShown c) slot in
         part (next c .store) (8 + i * 67) 67 ≡ cond clears (replicate 67 0) slot
@@ -181,3 +193,23 @@ module _ (server : Server) (registry : List ℕ) (cs : List Call) where
   pub record CredentialsYield : Type 0 where
     pub yields : (header body : List ℕ) (handed : Handed) → Asks header body handed → isCredentials body ≡ true
         → next (token header body handed) .granted ≡ mayHaveOwn clients (timeAt (handed .clock)) standing header body
+
+  -- And when a revocation is done, what it answers and what it clears.
+  pub record Revokes : Type 0 where
+    -- it is answered with 200 exactly when the client is admitted and no live token of another client is shown: "An unknown or run-out
+    -- token .. is status 200"
+    pub done : (header body : List ℕ) (clock : ℕ) (output : List ℕ) → Judged (revocation header body clock output)
+        → next (revocation header body clock output) .granted
+        ≡ (isAdmittedToRevoke clients header body && mayRevoke clients (timeAt clock) standing header body)
+    -- "status 200, empty"
+    pub replies : (header body : List ℕ) (clock : ℕ) (output : List ℕ) → Judged (revocation header body clock output)
+        → next (revocation header body clock output) .granted ≡ true
+        → Answers (withoutRandom clock output) (next (revocation header body clock output)) []
+    -- "an access token is cleared, or a refresh token together with all access tokens of its origin": every other slot keeps its bytes. That
+    -- one which is refused clears nothing is said of every call (`spendsNothing`)
+    pub clears : (header body : List ℕ) (clock : ℕ) (output : List ℕ) → Judged (revocation header body clock output)
+        → next (revocation header body clock output) .granted ≡ true
+        → (i : ℕ) → i < slotsInAll
+        → let slot = part store (8 + i * 67) 67 in
+        part (next (revocation header body clock output) .store) (8 + i * 67) 67
+        ≡ cond (isCleared clients (timeAt clock) standing header body slot) (replicate 67 0) slot

@@ -22,7 +22,8 @@ use Rattle.client_registry.specs.Registry.{Client}
 use Rattle.client_registry.specs.Lookup.{numberOf, clientAt}
 use Rattle.protocol.specs.ClientForms.{isInvalidForm, isInvalidClient}
 use Rattle.protocol.specs.Token.{tokenNames}
-use Rattle.history.specs.Calls.{Call, authorization, token, check, handedTo, Result, Event}
+use Rattle.protocol.specs.Revocation.{revocationNames}
+use Rattle.history.specs.Calls.{Call, authorization, token, revocation, check, handedTo, Result, Event}
 
 -- ---- issues
 
@@ -60,9 +61,12 @@ isLiveAt t e = ltb t (e .expiry)
 abbrev pub isOf : List ℕ → Issue → Bool
 isOf presented e = same presented (e .text)
 
+abbrev pub isToken : Issue → Bool
+isToken e = isA access e || isA refresh e
+
 -- an access or refresh token that came from the code of this text
 abbrev pub isTokenFrom : List ℕ → Issue → Bool
-isTokenFrom text e = (isA access e || isA refresh e) && same text (e .origin)
+isTokenFrom text e = isToken e && same text (e .origin)
 
 -- "Expiry is T plus 600 (code), 3,600 (access), 2,592,000 (refresh)."; a spent code keeps its own
 abbrev pub lifetime : Sort → ℕ
@@ -137,12 +141,19 @@ caller clients header body = numberOf (idIn header body) clients
 
 -- ---- who is let in
 
+-- neither `invalid_request` by the form nor `invalid_client`, for a list of known names and the one that must be there
+abbrev pub isLetIn : List (List ℕ) → List ℕ → List Client → List ℕ → List ℕ → Bool
+isLetIn names needed clients header body = not (isInvalidForm names needed header body) && not (isInvalidClient clients header body)
+
 -- "Well-formed and admitted means that no refusal listed before `invalid_grant` applies.": of these, `invalid_request` and
 -- `invalid_client` by the form and its client. The others the claim says in its own words: which grant is asked for; a code or
 -- refresh token that is missing is nothing that was issued; a client that asks for itself must be confidential.
 unfoldable pub isAdmitted : List Client → List ℕ → List ℕ → Bool
-isAdmitted clients header body =
-    not (isInvalidForm tokenNames (bytes "grant_type") header body) && not (isInvalidClient clients header body)
+isAdmitted clients header body = isLetIn tokenNames (bytes "grant_type") clients header body
+
+-- a revocation: "the checks come in the same order, without those of the grants, a missing token in place of a missing grant_type"
+unfoldable pub isAdmittedToRevoke : List Client → List ℕ → List ℕ → Bool
+isAdmittedToRevoke clients header body = isLetIn revocationNames (bytes "token") clients header body
 
 -- ---- codes and tokens in answers
 
@@ -230,12 +241,14 @@ issuedBy clients t standing (authorization query decision farm handed) r = codeI
 issuedBy clients t standing (token header body handed) r =
     cond (isExchange body) (exchangeIssues t standing body r)
     (cond (isRefresh body) (refreshIssues t standing body r) (cond (isCredentials body) (ownIssue clients t header body r ∷ []) []))
+issuedBy clients t standing (revocation header body clock output) r = []
 issuedBy clients t standing (check presented clock) r = []
 
 -- "A code is exchanged once an exchange of it has answered 200."
 unfoldable pub isSpentBy : Call → Issue → Bool
 isSpentBy (authorization query decision farm handed) e = false
 isSpentBy (token header body handed) e = isExchange body && (isA code e && isOf (valueOf body (bytes "code")) e)
+isSpentBy (revocation header body clock output) e = false
 isSpentBy (check presented clock) e = false
 
 -- "Keep an exchanged code .. until its old expiry."
@@ -266,17 +279,38 @@ isSecondShowing clients t standing (token header body handed) =
     let shown = valueOf body (bytes "code") in
     isAdmitted clients header body && isExchange body
     && any (λ e. isLiveAt t e && (isA spent e && isOf shown e && eqb (e .client) (caller clients header body))) standing
+isSecondShowing clients t standing (revocation header body clock output) = false
 isSecondShowing clients t standing (check presented clock) = false
 
 -- the code that a call shows
 unfoldable pub codeShown : Call → List ℕ
 codeShown (authorization query decision farm handed) = []
 codeShown (token header body handed) = valueOf body (bytes "code")
+codeShown (revocation header body clock output) = []
 codeShown (check presented clock) = []
 
 -- it withdraws "every token with that origin", and nothing else
 unfoldable pub isWithdrawnBy : List Client → ℕ → List Issue → Call → Issue → Bool
 isWithdrawnBy clients t standing c e = isSecondShowing clients t standing c && isTokenFrom (codeShown c) e
+
+-- ---- a token that is revoked
+
+-- the token that a call shows, live, and of the client that calls
+abbrev pub isRevocable : List Client → ℕ → List ℕ → List ℕ → Issue → Bool
+isRevocable clients t header body e =
+    isLiveAt t e && (isToken e && isOf (valueOf body (bytes "token")) e && eqb (e .client) (caller clients header body))
+
+-- what goes with it: "an access token is cleared, or a refresh token together with all access tokens of its origin"
+abbrev pub goesWith : Issue → Issue → Bool
+goesWith x e = isToken e && isOf (x .text) e || isA refresh x && (isA access e && same (x .origin) (e .origin))
+
+-- what a revocation that answered with 200 ended
+unfoldable pub isRevokedBy : List Client → ℕ → List Issue → Call → Issue → Bool
+isRevokedBy clients t standing (authorization query decision farm handed) e = false
+isRevokedBy clients t standing (token header body handed) e = false
+isRevokedBy clients t standing (revocation header body clock output) e =
+    any (λ x. isRevocable clients t header body x && goesWith x e) standing
+isRevokedBy clients t standing (check presented clock) e = false
 
 -- ---- what all calls contain
 
@@ -290,10 +324,11 @@ lastTwenty random = drop 20 random
 unfoldable pub twenties : Call → List (List ℕ)
 twenties (authorization query decision farm handed) = handed .random ∷ []
 twenties (token header body handed) = firstTwenty (handed .random) ∷ lastTwenty (handed .random) ∷ []
+twenties (revocation header body clock output) = []
 twenties (check presented clock) = []
 
--- of the calls seen: the highest clock, the issues that stand, and the random bytes. An issue stands unless it was withdrawn, and a
--- code that was exchanged stands as spent
+-- of the calls seen: the highest clock, the issues that stand, and the random bytes. An issue stands unless it was withdrawn or revoked,
+-- and a code that was exchanged stands as spent
 pub record Contents : Type 0 where
   pub highest : ℕ
   pub standing : List Issue
@@ -303,10 +338,12 @@ pub record Contents : Type 0 where
 abbrev pub nothingYet : Contents
 nothingYet = record { highest = 0; standing = []; randoms = [] }
 
--- what stands after a call at the time t: "Demand 3 adds to "live" that no such second showing came earlier"
+-- what stands after a call at the time t: "Demand 3 adds to "live" that no such second showing came earlier"; "Demand 3's "live" adds
+-- that no such call came earlier", as revokes the token
 unfoldable pub standingAfter : List Client → ℕ → List Issue → Call → Result → List Issue
 standingAfter clients t standing c r =
-    cond (r .granted) (issuedBy clients t standing c r ++ map (afterGrant c) standing)
+    cond (r .granted)
+    (issuedBy clients t standing c r ++ map (afterGrant c) (keep (λ e. not (isRevokedBy clients t standing c e)) standing))
     (keep (λ e. not (isWithdrawnBy clients t standing c e)) standing)
 
 -- one event more: "Calls refused with 1 to 4 are neither judged nor seen, and their random bytes don't count."

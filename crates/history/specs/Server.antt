@@ -13,8 +13,8 @@ use Rattle.protocol.specs.declared.LiveToken.{LiveToken}
 use Rattle.protocol.specs.declared.CheckAnswer.{CheckAnswer}
 use Rattle.protocol.specs.declared.CheckAnswer.the-variants.{Refused, NotLive, Live}
 use Rattle.protocol.specs.Answers.{isGrant, statusOf}
-use Rattle.protocol.specs.Outcomes.{Outcome, authorizationOutcome, tokenOutcome, checkOutcome}
-use Rattle.history.specs.Calls.{Call, authorization, token, check, Result, Server}
+use Rattle.protocol.specs.Outcomes.{Outcome, authorizationOutcome, tokenOutcome, revocationOutcome, checkOutcome}
+use Rattle.history.specs.Calls.{Call, authorization, token, revocation, check, Result, Server}
 
 -- ---- the outcome of any call
 
@@ -31,6 +31,8 @@ unfoldable pub outcomeOf : List ℕ → List ℕ → Call → Outcome Answer
 outcomeOf registry store (authorization query decision farm handed) =
     answering authorizationAnswer (authorizationOutcome query decision farm registry store handed)
 outcomeOf registry store (token header body handed) = answering tokenAnswer (tokenOutcome header body registry store handed)
+outcomeOf registry store (revocation header body clock output) =
+    answering tokenAnswer (revocationOutcome header body registry store clock output)
 outcomeOf registry store (check presented clock) = answering checkAnswer (checkOutcome presented registry store clock)
 
 -- ---- answers, told apart

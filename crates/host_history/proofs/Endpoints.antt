@@ -1,5 +1,6 @@
 -- What each endpoint can decide, for every input: the authorization endpoint refuses by a number, a page or a redirect, the token
--- endpoint by a number, a word with its status or a failure, the check by a number that is not 1.
+-- endpoint by a number, a word with its status or a failure, the revocation endpoint by a number or a word with its status, the check by a
+-- number that is not 1.
 --
 -- An endpoint answers refusals 1 to 4 or serves the call (`answered`); what is served is decided by the first reason of the reading
 -- or of the request's plan, and each of these has a refusal of the endpoint's own.
@@ -11,7 +12,7 @@ use Prim.Native.Nat.{ℕ}
 use lib.Dec.{ltb}
 use lib.ListN.{length}
 use Rattle.octets.specs.Text.{bytes}
-use Rattle.form.specs.Content.{formValue, isMissing, isOnce}
+use Rattle.form.specs.Content.{formValue, isMissing, onlyValue, isOnce}
 use Rattle.encoding.specs.declared.DigestText.{DigestText}
 use Rattle.encoding.specs.declared.HandleText.{HandleText}
 use Rattle.client_registry.specs.Registry.{Client, fitRegistry, clientsOf}
@@ -32,17 +33,18 @@ use Rattle.protocol.specs.declared.ExchangeRequest.{ExchangeRequest}
 use Rattle.protocol.specs.declared.RefreshRequest.{RefreshRequest}
 use Rattle.protocol.specs.declared.CredentialsRequest.{CredentialsRequest}
 use Rattle.protocol.specs.declared.Reading.{Reading}
-use Rattle.protocol.specs.declared.Request.the-variants.{Exchange, Refresh, Credentials}
+use Rattle.protocol.specs.declared.Request.the-variants.{Exchange, Refresh, Credentials, Revocation}
 use Rattle.protocol.specs.Requests.{unlessRefused, noChallenge, presentingNone}
 use Rattle.protocol.specs.Authorization.{queryClient, pageReasons, redirectReasons, codeReading, readAuthorization}
 use Rattle.protocol.specs.ClientForms.{callClient, formReasons}
 use Rattle.protocol.specs.Token.{readExchange, readRefresh, credentialsReasons, readCredentials, readGrant, tokenNames, readToken}
+use Rattle.protocol.specs.Revocation.{revocationNames, readRevocation}
 use Rattle.protocol.specs.Refusals.{Reason, when, firstOf}
-use Rattle.protocol.specs.Granting.{Plan, refusedPlan, codePlan, exchangePlan, refreshPlan, credentialsPlan, planFor, planOf, decisionOn, shownSlot, liveToken, checkSlots}
-use Rattle.protocol.specs.Outcomes.{Handed, clockAlone, Endpoint, unfitReasons, admit, outcomeBy, outcome, serveAuthorization, serveToken, serveCheck, authorizationOutcome, tokenOutcome, checkOutcome, authorizationEndpoint, tokenEndpoint, checkEndpoint}
+use Rattle.protocol.specs.Granting.{Plan, refusedPlan, codePlan, exchangePlan, refreshPlan, credentialsPlan, revocationPlan, planFor, planOf, decisionOn, shownSlot, liveToken, checkSlots}
+use Rattle.protocol.specs.Outcomes.{Handed, withoutRandom, clockAlone, Endpoint, unfitReasons, admit, outcomeBy, outcome, serveAuthorization, serveToken, serveRevocation, serveCheck, authorizationOutcome, tokenOutcome, revocationOutcome, checkOutcome, authorizationEndpoint, tokenEndpoint, revocationEndpoint, checkEndpoint}
 use Rattle.protocol.proofs.Reasons.{decided}
 use Rattle.history.specs.Server.{isUnfitRefusal}
-use Rattle.host_history.specs.Cases.{ofAuthorization, ofToken, ofCheck}
+use Rattle.host_history.specs.Cases.{ofAuthorization, ofToken, ofRevocation, ofCheck}
 
 -- ---- any endpoint
 
@@ -122,6 +124,25 @@ unfolding serveToken ofToken
 token-decides header body registry store handed =
     answered (tokenEndpoint header body) registry store handed (λ a. ofToken (a .decision) ≡ true) (λ i. refl)
     (λ t slots. token-read t slots (handed .random) (clientsOf registry) header body)
+
+-- ---- the revocation endpoint
+
+pub revocation-decides : (header body registry store : List ℕ) (clock : ℕ) (output : List ℕ)
+    → ofRevocation (revocationOutcome header body registry store clock output .answer .decision) ≡ true
+unfolding serveRevocation readRevocation formReasons unlessRefused planFor refusedPlan revocationPlan firstOf ofRevocation
+revocation-decides header body registry store clock output =
+    let clients = clientsOf registry in
+    let reading : Reading = record {
+      request = Revocation (record { client = callClient clients header body });
+      presented = readHandle (onlyValue (formValue body (bytes "token")));
+      challenge = noChallenge;
+    }
+    in
+    answered (revocationEndpoint header body) registry store (withoutRandom clock output) (λ a. ofRevocation (a .decision) ≡ true) (λ i. refl)
+    (λ t slots.
+    decided (λ d. ofRevocation (decisionOn (planOf t slots [] (unlessRefused d reading))) ≡ true)
+    (formReasons revocationNames (bytes "token") clients header body) (refl, (refl, tt))
+    (λ _. decided (λ d. ofRevocation d ≡ true) (planOf t slots [] reading .reasons) (refl, tt) (λ _. refl)))
 
 -- ---- the check
 

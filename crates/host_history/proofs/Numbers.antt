@@ -25,12 +25,12 @@ use Rattle.protocol.specs.declared.Decision.the-variants.{Grant, Refuse}
 use Rattle.protocol.specs.declared.CheckAnswer.{CheckAnswer}
 use Rattle.protocol.specs.declared.CheckAnswer.the-variants.{Refused, NotLive, Live}
 use Rattle.protocol.specs.Answers.{wordNumber, wordStatus, inputNumber, pageNumber, refusalNumber, statusOf, isGrant}
-use Rattle.protocol.specs.Outcomes.{authorizationOutcome, tokenOutcome, checkOutcome}
+use Rattle.protocol.specs.Outcomes.{authorizationOutcome, tokenOutcome, revocationOutcome, checkOutcome}
 use Rattle.authorization_server.specs.Numbers.{decisionNumber, decisionError, checkReply}
 use Rattle.history.specs.Server.{isUnfitRefusal, isUnfitDecision, isUnfitCheck, isLiveCheck}
 use Rattle.host_history.specs.Exports.{isOneToFour}
 use Rattle.host_history.specs.Cases.{ofAuthorization, NothingElse}
-use Rattle.host_history.proofs.Endpoints.{authorization-decides, token-decides, check-decides}
+use Rattle.host_history.proofs.Endpoints.{authorization-decides, token-decides, revocation-decides, check-decides}
 
 -- ---- each input, page and word
 
@@ -89,7 +89,7 @@ authorization-granted (Refuse (Redirect w)) e = word-numbers w .0
 authorization-granted (Refuse (Token w)) e = absurd (false≢true e)
 authorization-granted (Refuse (Failed f)) e = absurd (false≢true e)
 
--- ---- tokens: status 200
+-- ---- tokens, or a revocation that was done: status 200
 
 token-granted : (d : Decision) → eqb (statusOf d) 200 ≡ isGrant d
 unfolding isGrant
@@ -115,11 +115,13 @@ pub nothing-else : (registry store : List ℕ) → NothingElse registry store
 nothing-else registry store = record {
   authorizes = λ query decision farm handed. authorization-decides query decision farm registry store handed;
   tokens = λ header body handed. token-decides header body registry store handed;
+  revokes = λ header body clock output. revocation-decides header body registry store clock output;
   checks = λ presented clock. check-decides presented registry store clock;
   granted = λ query decision farm handed.
       authorization-granted (authorizationOutcome query decision farm registry store handed .answer .decision)
       (authorization-decides query decision farm registry store handed);
   yielded = λ header body handed. token-granted (tokenOutcome header body registry store handed .answer .decision);
+  revoked = λ header body clock output. token-granted (revocationOutcome header body registry store clock output .answer .decision);
   live = λ presented clock. check-live (checkOutcome presented registry store clock .answer);
   unfit = decision-unfit;
   unfitCheck = check-unfit;

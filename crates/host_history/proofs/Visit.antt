@@ -1,25 +1,27 @@
 -- The claim over the exports is not empty: the visit of document 01, from raw bytes, goes through the theorem both ways. The exchange at
--- 1599 has status 200, at 1600 another; a confidential client that asks for itself has status 200, a public one another. Calls and
--- computations are those of crate history (Examples and Visit there).
+-- 1599 has status 200, at 1600 another; a confidential client that asks for itself has status 200, a public one another; a refresh token is
+-- revoked with status 200 by its client, and by another client with another. Calls and computations are those of crate history (Examples and
+-- Visit there).
 -- Assumes nothing.
-use mathlib.Core.Path.{_≡_, sym, ap, _∙_, subst}
-use mathlib.Core.Bool.{Bool, true, false}
+use mathlib.Core.Path.{_≡_, sym, ap, ap₂, _∙_, subst}
+use mathlib.Core.Bool.{Bool, true, false, _&&_}
 use mathlib.Core.List.{List, []}
 use Prim.Native.Nat.{ℕ, max}
 use borrow.Author.Tests.{eqb-true}
 use lib.Dec.{eqb}
+use lib.ListN.{replicate}
 use Rattle.octets.specs.Text.{bytes}
 use Rattle.client_registry.specs.Registry.{Client, clientsOf}
 use Rattle.client_registry.specs.Sample.{sampleClients, sampleRegistry}
-use Rattle.protocol.specs.Outcomes.{Handed, tokenOutcome}
+use Rattle.protocol.specs.Outcomes.{Handed, tokenOutcome, revocationOutcome}
 use Rattle.authorization_server.specs.Numbers.{tokenReply}
 use Rattle.history.specs.Calls.{token, Server}
-use Rattle.history.specs.Contents.{isExchange, isCredentials, Contents}
-use Rattle.history.specs.Claim.{mayExchange, mayHaveOwn, store, contained, Asks}
-use Rattle.history.proofs.Examples.{handedAt, header, repeating, codeText, ownFor, tokenAt, exchangeAt, visit, inVisit, isAsked, isJudged}
-use Rattle.history.proofs.Visit.{sample-bytes, sample-clients, typed, contents-are, well-asked, theVisit, ExchangeAt, OwnAsked, shown}
+use Rattle.history.specs.Contents.{isExchange, isCredentials, isAdmittedToRevoke, Contents}
+use Rattle.history.specs.Claim.{mayExchange, mayHaveOwn, mayRevoke, store, contained, Judged, Asks}
+use Rattle.history.proofs.Examples.{handedAt, header, repeating, codeText, refreshText, ownFor, tokenAt, exchangeAt, revokeAt, revoking, barnRevoking, visit, day, inVisit, inDay, isAsked, isJudged}
+use Rattle.history.proofs.Visit.{sample-bytes, sample-clients, typed, contents-are, judged, well-asked, theVisit, theDay, ExchangeAt, OwnAsked, RevocationOf, shown}
 use Rattle.host_history.specs.Exports.{tokenSeen, exports}
-use Rattle.host_history.proofs.Theorem.{same-server, host-demand3, host-credentials-yield}
+use Rattle.host_history.proofs.Theorem.{same-server, host-demand3, host-credentials-yield, host-revocations}
 
 -- the status that the export answers a call after the visit
 abbrev pub statusOf : List ℕ → List ℕ → Handed → ℕ
@@ -78,3 +80,24 @@ status-own = eqb-true (statusOf header (ownFor []) (handedAt 1510 40 0xC0)) 200 
 
 pub status-public : eqb (statusOf [] (ownFor (bytes "&client_id=barnapp")) (handedAt 1510 40 0xC0)) 200 ≡ false
 status-public = own-status (shown .own-public)
+
+-- a revocation after the day
+abbrev pub revocationStatus : List ℕ → List ℕ → ℕ
+revocationStatus h b = tokenReply (revocationOutcome h b sampleRegistry (store exports sampleRegistry day) 1510 (replicate 1024 0) .answer) .status
+
+revocation-status : {h b : List ℕ} {paper : Bool} → RevocationOf inDay 1510 h b paper → eqb (revocationStatus h b) 200 ≡ paper
+unfolding exports tokenSeen theDay revokeAt
+revocation-status {h} {b} e =
+    let c = revokeAt h b 1510 in
+    let may : List Client → Contents → Bool = λ clients k. isAdmittedToRevoke clients h b && mayRevoke clients (max 1510 (k .highest)) (k .standing) h b in
+    let asked = subst (λ (s : Server). Judged s sampleRegistry day c) (sym same-server) (judged theDay c (e .judged)) in
+    host-revocations sampleRegistry sample-bytes day (typed theDay) .done h b 1510 (replicate 1024 0) asked
+    ∙ ap (λ (s : Server). may (clientsOf sampleRegistry) (contained s sampleRegistry day)) same-server
+    ∙ ap₂ may sample-clients (contents-are theDay)
+    ∙ e .says
+
+pub status-revoked : revocationStatus header (revoking refreshText) ≡ 200
+status-revoked = eqb-true (revocationStatus header (revoking refreshText)) 200 (revocation-status (shown .revocation-own))
+
+pub status-other : eqb (revocationStatus [] (barnRevoking refreshText)) 200 ≡ false
+status-other = revocation-status (shown .revocation-other)

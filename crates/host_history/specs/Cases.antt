@@ -13,7 +13,7 @@ use Rattle.protocol.specs.declared.Decision.the-variants.{Grant, Refuse}
 use Rattle.protocol.specs.declared.CheckAnswer.{CheckAnswer}
 use Rattle.protocol.specs.declared.CheckAnswer.the-variants.{Refused, NotLive, Live}
 use Rattle.protocol.specs.Answers.{refusalNumber, isGrant}
-use Rattle.protocol.specs.Outcomes.{Handed, authorizationOutcome, tokenOutcome, checkOutcome}
+use Rattle.protocol.specs.Outcomes.{Handed, authorizationOutcome, tokenOutcome, revocationOutcome, checkOutcome}
 use Rattle.authorization_server.specs.Numbers.{decisionNumber, authorizationReply, tokenReply, checkReply}
 use Rattle.history.specs.Server.{isUnfitRefusal, isUnfitDecision, isUnfitCheck, isLiveCheck}
 use Rattle.host_history.specs.Exports.{isOneToFour}
@@ -36,6 +36,15 @@ ofToken (Refuse (Redirect w)) = false
 ofToken (Refuse (Token w)) = true
 ofToken (Refuse (Failed f)) = true
 
+-- an error word with its status
+unfoldable pub ofRevocation : Decision → Bool
+ofRevocation Grant = true
+ofRevocation (Refuse (Unfit i)) = true
+ofRevocation (Refuse (ErrorPage p)) = false
+ofRevocation (Refuse (Redirect w)) = false
+ofRevocation (Refuse (Token w)) = true
+ofRevocation (Refuse (Failed f)) = false
+
 -- "1 to 4 .. (the gate has no 1)"; "Not live is an answer, not an error."
 unfoldable pub ofCheck : CheckAnswer → Bool
 ofCheck (Refused r) = isUnfitRefusal r && not (eqb (refusalNumber r) 1)
@@ -47,6 +56,8 @@ pub record NothingElse (registry store : List ℕ) : Type 0 where
   pub authorizes : (query : List ℕ) (decision farm : ℕ) (handed : Handed)
       → ofAuthorization (authorizationOutcome query decision farm registry store handed .answer .decision) ≡ true
   pub tokens : (header body : List ℕ) (handed : Handed) → ofToken (tokenOutcome header body registry store handed .answer .decision) ≡ true
+  pub revokes : (header body : List ℕ) (clock : ℕ) (output : List ℕ)
+      → ofRevocation (revocationOutcome header body registry store clock output .answer .decision) ≡ true
   pub checks : (presented : List ℕ) (clock : ℕ) → ofCheck (checkOutcome presented registry store clock .answer) ≡ true
   -- refusal 0 and error 0, status 200, and live 1
   pub granted : (query : List ℕ) (decision farm : ℕ) (handed : Handed)
@@ -54,6 +65,8 @@ pub record NothingElse (registry store : List ℕ) : Type 0 where
       (eqb (authorizationReply a .refusal) 0 && eqb (authorizationReply a .error) 0) ≡ isGrant (a .decision)
   pub yielded : (header body : List ℕ) (handed : Handed)
       → let a = tokenOutcome header body registry store handed .answer in eqb (tokenReply a .status) 200 ≡ isGrant (a .decision)
+  pub revoked : (header body : List ℕ) (clock : ℕ) (output : List ℕ)
+      → let a = revocationOutcome header body registry store clock output .answer in eqb (tokenReply a .status) 200 ≡ isGrant (a .decision)
   pub live : (presented : List ℕ) (clock : ℕ)
       → let a = checkOutcome presented registry store clock .answer in eqb (checkReply a .live) 1 ≡ isLiveCheck a
   -- refusals 1 to 4

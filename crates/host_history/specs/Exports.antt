@@ -5,12 +5,12 @@ use mathlib.Core.Path.{_≡_}
 use mathlib.Core.Bool.{Bool, false, _&&_}
 use mathlib.Core.List.{List}
 use lib.Dec.{leb, eqb}
-use Rattle.protocol.specs.Outcomes.{Outcome, authorizationOutcome, tokenOutcome, checkOutcome}
+use Rattle.protocol.specs.Outcomes.{Outcome, authorizationOutcome, tokenOutcome, revocationOutcome, checkOutcome}
 use Rattle.authorization_server.specs.declared.AuthorizationReply.{AuthorizationReply}
 use Rattle.authorization_server.specs.declared.TokenReply.{TokenReply}
 use Rattle.authorization_server.specs.declared.CheckReply.{CheckReply}
 use Rattle.authorization_server.specs.Numbers.{authorizationReply, tokenReply, checkReply, inNumbers}
-use Rattle.history.specs.Calls.{Call, authorization, token, check, WellTyped, Result, Server}
+use Rattle.history.specs.Calls.{Call, authorization, token, revocation, check, WellTyped, Result, Server}
 use Rattle.history.specs.Server.{nothingNamed}
 
 -- ---- numbers, told apart
@@ -33,7 +33,7 @@ authorizationSeen left =
       store = left .store;
     }
 
--- tokens: status 200
+-- tokens, or a revocation that was done: status 200
 unfoldable pub tokenSeen : Outcome TokenReply → Result
 tokenSeen left =
     let a = left .answer in
@@ -67,6 +67,8 @@ unfoldable pub exports : Server
 exports registry store (authorization query decision farm handed) =
     authorizationSeen (inNumbers authorizationReply (authorizationOutcome query decision farm registry store handed))
 exports registry store (token header body handed) = tokenSeen (inNumbers tokenReply (tokenOutcome header body registry store handed))
+exports registry store (revocation header body clock output) =
+    tokenSeen (inNumbers tokenReply (revocationOutcome header body registry store clock output))
 exports registry store (check presented clock) = checkSeen (inNumbers checkReply (checkOutcome presented registry store clock))
 
 -- by the types of its arguments the call is one that demand 3 speaks of, and this is what comes of it

@@ -7,7 +7,7 @@ use authorization_server::AuthorizationReply;
 use authorization_server::CheckReply;
 use authorization_server::TokenReply;
 ghost use mathlib.Core.List.{[]};
-ghost use Rattle.history.specs.Calls.{authorization as authorizationCall, token as tokenCall, check as checkCall};
+ghost use Rattle.history.specs.Calls.{authorization as authorizationCall, token as tokenCall, revocation as revocationCall, check as checkCall};
 ghost use Rattle.host_history.specs.Exports.{authorizationSeen, tokenSeen, checkSeen, Leaves};
 
 fn authorize(
@@ -52,6 +52,21 @@ fn token(
         (tokenSeen (record { answer = r; output = now (output .exit); store = now (store .exit) })) ⌝ }
 {
     authorization_server::poplarchime_token(header, body, registry, store, clock, random, output)
+}
+
+fn revoke(
+    header: &[u8],
+    body: &[u8],
+    registry: &[u8],
+    store: &mut [u8],
+    clock: u64,
+    output: &mut [u8],
+) -> TokenReply
+    ensures { λ r. ⌜ Leaves (now (registry .entry)) (now (store .entry))
+        (revocationCall (now (header .entry)) (now (body .entry)) clock (now (output .entry)))
+        (tokenSeen (record { answer = r; output = now (output .exit); store = now (store .exit) })) ⌝ }
+{
+    authorization_server::poplarchime_revoke(header, body, registry, store, clock, output)
 }
 
 fn check(token: &[u8], registry: &[u8], store: &mut [u8], clock: u64) -> CheckReply

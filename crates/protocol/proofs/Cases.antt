@@ -41,14 +41,15 @@ use Rattle.protocol.specs.declared.CheckAnswer.{CheckAnswer}
 use Rattle.protocol.specs.declared.CheckAnswer.the-variants.{Refused, NotLive, Live}
 use Rattle.protocol.specs.Answers.{refusalNumber, errorNumber, statusOf}
 use Rattle.protocol.specs.Refusals.{when, firstOf}
-use Rattle.protocol.specs.Outcomes.{Handed, Endpoint, Outcome, admit, outcomeBy, outcome, authorizationEndpoint, tokenEndpoint, checkEndpoint, authorizationOutcome, tokenOutcome, checkOutcome, clockAlone}
+use Rattle.protocol.specs.Outcomes.{Handed, Endpoint, Outcome, admit, outcomeBy, outcome, authorizationEndpoint, tokenEndpoint, revocationEndpoint, checkEndpoint, authorizationOutcome, tokenOutcome, revocationOutcome, checkOutcome, withoutRandom, clockAlone}
 
 -- ---- calls and stores
 
--- a call by its own arguments: query, decision and farm; header and body; the token presented
+-- a call by its own arguments: query, decision and farm; header and body, at two endpoints; the token presented
 pub data Call : Type 0 where
   authorization : (query : List ℕ) (decision farm : ℕ) → Call
   token : (header body : List ℕ) → Call
+  revocation : (header body : List ℕ) → Call
   check : (presented : List ℕ) → Call
 
 -- a store: the first of its slots, and what each of the others is
@@ -123,7 +124,7 @@ pub record Case : Type 0 where
   pub store : ShortStore
   pub clock : ℕ
   pub random : List ℕ
-  -- how many bytes the output has; the check is handed none
+  -- how many bytes the output has; the check is handed none. Neither it nor a revocation is handed random bytes
   pub room : ℕ
   -- what the paper has: the numbers of the answer, the text that is written, the store after
   pub numbers : List ℕ
@@ -135,18 +136,21 @@ pub record Case : Type 0 where
 abbrev pub AnswerTo : Call → Type 0
 AnswerTo (authorization query decision farm) = AuthorizationAnswer
 AnswerTo (token header body) = TokenAnswer
+AnswerTo (revocation header body) = TokenAnswer
 AnswerTo (check presented) = CheckAnswer
 
 -- what the outcome function of the call's endpoint says
 abbrev pub outcomeOf : (k : Call) (registry store : List ℕ) (handed : Handed) → Outcome (AnswerTo k)
 outcomeOf (authorization query decision farm) registry store handed = authorizationOutcome query decision farm registry store handed
 outcomeOf (token header body) registry store handed = tokenOutcome header body registry store handed
+outcomeOf (revocation header body) registry store handed = revocationOutcome header body registry store (handed .clock) (handed .output)
 outcomeOf (check presented) registry store handed = checkOutcome presented registry store (handed .clock)
 
--- what the call is handed; the check has neither random bytes nor output
+-- what the call is handed; a revocation has no random bytes, and the check neither these nor an output
 abbrev pub handedTo : Call → ℕ → List ℕ → List ℕ → Handed
 handedTo (authorization query decision farm) clock random output = record { clock = clock; random = random; output = output }
 handedTo (token header body) clock random output = record { clock = clock; random = random; output = output }
+handedTo (revocation header body) clock random output = withoutRandom clock output
 handedTo (check presented) clock random output = clockAlone clock
 
 abbrev pub refusalOf : Decision → ℕ
@@ -157,11 +161,16 @@ abbrev pub errorOf : Decision → ℕ
 errorOf Grant = 0
 errorOf (Refuse r) = errorNumber r
 
--- the numbers that a C host sees but for the length. Authorization: refusal and error word. Token: refusal, status, error word and
--- challenge. Check: refusal, live, client, farm, scope and seconds left, which are 0 where they do not apply
+-- the numbers of an answer to an authenticated client: refusal, status, error word and challenge
+abbrev replyNumbers : TokenAnswer → List ℕ
+replyNumbers a = refusalOf (a .decision) ∷ statusOf (a .decision) ∷ errorOf (a .decision) ∷ bit (a .challenge) ∷ []
+
+-- the numbers that a C host sees but for the length. Authorization: refusal and error word. Token and revocation: those above.
+-- Check: refusal, live, client, farm, scope and seconds left, which are 0 where they do not apply
 abbrev pub numbersOf : (k : Call) → AnswerTo k → List ℕ
 numbersOf (authorization query decision farm) a = refusalOf (a .decision) ∷ errorOf (a .decision) ∷ []
-numbersOf (token header body) a = refusalOf (a .decision) ∷ statusOf (a .decision) ∷ errorOf (a .decision) ∷ bit (a .challenge) ∷ []
+numbersOf (token header body) a = replyNumbers a
+numbersOf (revocation header body) a = replyNumbers a
 numbersOf (check presented) (Refused r) = refusalNumber r ∷ 0 ∷ 0 ∷ 0 ∷ 0 ∷ 0 ∷ []
 numbersOf (check presented) NotLive = 0 ∷ 0 ∷ 0 ∷ 0 ∷ 0 ∷ 0 ∷ []
 numbersOf (check presented) (Live l) = 0 ∷ 1 ∷ l .client ∷ l .farm ∷ l .scope ∷ l .left ∷ []
@@ -169,6 +178,7 @@ numbersOf (check presented) (Live l) = 0 ∷ 1 ∷ l .client ∷ l .farm ∷ l .
 abbrev pub lengthOf : (k : Call) → AnswerTo k → ℕ
 lengthOf (authorization query decision farm) a = a .length
 lengthOf (token header body) a = a .length
+lengthOf (revocation header body) a = a .length
 lengthOf (check presented) a = 0
 
 -- the outcome is as the case has it: it answers the numbers and the text's length, writes the text at the start of the output and
@@ -190,6 +200,7 @@ Decided c = (output : List ℕ) → length output ≡ c .room
 abbrev pub endpointOf : (k : Call) → Endpoint (AnswerTo k)
 endpointOf (authorization query decision farm) = authorizationEndpoint query decision farm
 endpointOf (token header body) = tokenEndpoint header body
+endpointOf (revocation header body) = revocationEndpoint header body
 endpointOf (check presented) = checkEndpoint presented
 
 -- refusals 1 to 4, by whether buffers, registry and store are fit: "The first that applies counts."
@@ -432,12 +443,14 @@ called : (k : Call) (registry : List ℕ) (l : ShortStore) → isWritable l ≡ 
 called (authorization query decision farm) registry l e clock random output blank n =
     whole (authorizationEndpoint query decision farm) registry l e _ _ (rw n)
 called (token header body) registry l e clock random output blank n = whole (tokenEndpoint header body) registry l e _ _ (rw n)
+called (revocation header body) registry l e clock random output blank n = whole (revocationEndpoint header body) registry l e _ _ (rw n)
 called (check presented) registry l e clock random output blank n = whole (checkEndpoint presented) registry l e _ _ refl
 
 room-of : (k : Call) (clock : ℕ) (random output blank : List ℕ) → length output ≡ length blank
     → length (handedTo k clock random output .output) ≡ length (handedTo k clock random blank .output)
 room-of (authorization query decision farm) clock random output blank n = n
 room-of (token header body) clock random output blank n = n
+room-of (revocation header body) clock random output blank n = n
 room-of (check presented) clock random output blank n = refl
 
 -- a text at the start of an output that has room for it

@@ -10,7 +10,7 @@ use mathlib.Core.Bool.{Bool, true, false, cond}
 use mathlib.Core.List.{List, [], _++_}
 use native.Mathlib.Omega.{arith}
 use borrow.Author.Tests.{leb-true, ltb-false, not-false}
-use lib.Dec.{leb, ltb, eqb, lit≤, lit<}
+use lib.Dec.{leb, eqb, lit≤, lit<}
 use lib.ListN.{length, take, drop, replicate, length-append, length-take}
 use Rattle.octets.specs.Text.{bytes}
 use Rattle.octets.specs.Lists.{every, inClass}
@@ -43,8 +43,9 @@ use Rattle.protocol.specs.Limits.{mostState, leastOutput, codeRandom, to
 use Rattle.protocol.specs.Answers.{wordText}
 use Rattle.protocol.specs.Authorization.{queryClient, readAuthorization, isSoundState, separator, stateText, location, codeParameter, errorParameter, locationText}
 use Rattle.protocol.specs.Token.{readToken, errorReply, refusalReply, tokenReply, refreshMember}
+use Rattle.protocol.specs.Revocation.{readRevocation, revocationReply}
 use Rattle.protocol.specs.Granting.{Plan, firstHandle, secondHandle, planOf, decisionOn}
-use Rattle.protocol.specs.Outcomes.{Handed, Endpoint, Outcome, unfitReasons, admit, outcomeBy, outcome, unfitBuffers, serveAuthorization, authorizationEndpoint, authorizationOutcome, replyText, serveToken, tokenEndpoint, tokenOutcome}
+use Rattle.protocol.specs.Outcomes.{Handed, Endpoint, Outcome, unfitReasons, admit, outcomeBy, outcome, unfitOutput, unfitBuffers, serveAuthorization, authorizationEndpoint, authorizationOutcome, replyText, serveToken, tokenEndpoint, tokenOutcome, withoutRandom, serveRevocation, revocationEndpoint, revocationOutcome}
 use Rattle.protocol.proofs.Reasons.{unrefused, decided}
 
 -- ---- error words and handles
@@ -124,12 +125,20 @@ reply-length random plan Grant =
     simp length-append (omega (arith, hex-most random, member-length random (plan .bringsRefresh), text-length (plan .scope)))
 reply-length random plan (Refuse r) = refusal-length r
 
+revocation-length : (d : Decision) → length (revocationReply d) ≤ longestReply
+unfolding revocationReply
+revocation-length Grant = omega arith
+revocation-length (Refuse r) = refusal-length r
+
 -- ---- an outcome: what is answered is within the output
 
 module _ (handed : Handed) where
-  -- the output of a call whose buffers are fit
-  room : (n : ℕ) → unfitBuffers n (handed .random) (handed .output) ≡ false → leastOutput ≤ length (handed .output)
-  room n fit = ltb-false (length (handed .output)) leastOutput (or-none (ltb (length (handed .output)) leastOutput) _ fit .0)
+  -- the output of a call whose output is fit, and of one whose buffers are
+  room : unfitOutput (handed .output) ≡ false → leastOutput ≤ length (handed .output)
+  room fit = ltb-false (length (handed .output)) leastOutput fit
+
+  room-beside : (n : ℕ) → unfitBuffers n (handed .random) (handed .output) ≡ false → leastOutput ≤ length (handed .output)
+  room-beside n fit = room (or-none (unfitOutput (handed .output)) _ fit .0)
 
   -- where a call is served, by its clients at a time, on any slots
   module _ (clients : List Client) (t : ℕ) (slots : List Slot) where
@@ -142,14 +151,21 @@ module _ (handed : Handed) where
         let most =
         location-length (clientAt clients (queryClient clients query) .redirect) (short (queryClient clients query))
         (formValue query (bytes "state")) (handed .random) (decisionOn plan) in
-        omega (arith, most, room codeRandom fit)
+        omega (arith, most, room-beside codeRandom fit)
 
     pub reply-fits : (header body : List ℕ) → unfitBuffers tokenRandom (handed .random) (handed .output) ≡ false
         → serveToken header body clients t slots (handed .random) .answer .length ≤ length (handed .output)
     unfolding serveToken
     reply-fits header body fit =
         let plan = planOf t slots (handed .random) (readToken clients header body) in
-        omega (arith, reply-length (handed .random) plan (decisionOn plan), room tokenRandom fit)
+        omega (arith, reply-length (handed .random) plan (decisionOn plan), room-beside tokenRandom fit)
+
+    pub revocation-fits : (header body : List ℕ) → unfitOutput (handed .output) ≡ false
+        → serveRevocation header body clients t slots (handed .random) .answer .length ≤ length (handed .output)
+    unfolding serveRevocation
+    revocation-fits header body fit =
+        let plan = planOf t slots (handed .random) (readRevocation clients header body) in
+        omega (arith, revocation-length (decisionOn plan), room fit)
 
   -- of a call on any registry and store: it is refused with 1 to 4 or served
   module _ (registry store : List ℕ) where
@@ -181,6 +197,14 @@ module _ (registry store : List ℕ) (handed : Handed) where
       rw e
       (within handed registry store (tokenEndpoint header body) (λ a. a .length) (λ refusal. refl)
       (λ sound fit t slots. reply-fits handed (clientsOf registry) t slots header body fit))
+
+pub revocation-within : (registry store header body : List ℕ) (clock : ℕ) (output : List ℕ) {o : Outcome TokenAnswer}
+    → o ≡ revocationOutcome header body registry store clock output → o .answer .length ≤ length output
+revocation-within registry store header body clock output e =
+    let handed = withoutRandom clock output in
+    rw e
+    (within handed registry store (revocationEndpoint header body) (λ a. a .length) (λ refusal. refl)
+    (λ sound fit t slots. revocation-fits handed (clientsOf registry) t slots header body fit))
 
 -- ---- texts of the full lengths
 

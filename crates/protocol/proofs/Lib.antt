@@ -18,6 +18,7 @@ pub mod CredentialsCases
 pub mod HeaderCases
 pub mod SpentCases
 pub mod ChallengeCases
+pub mod RevocationCases
 pub mod Starred
 pub mod Visit
 pub mod Table

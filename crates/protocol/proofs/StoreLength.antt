@@ -21,7 +21,7 @@ use Rattle.token_store.proofs.Fits.{unfit-size}
 use Rattle.token_store.proofs.Longer.{longer, timeBefore, slotsBefore, wasFit, longer-time, longer-fit, longer-finds}
 use Rattle.protocol.specs.Refusals.{firstOf}
 use Rattle.protocol.specs.Granting.{checkSlots}
-use Rattle.protocol.specs.Outcomes.{Endpoint, Handed, outcome, outcomeBy, admit, authorizationEndpoint, tokenEndpoint, checkEndpoint, authorizationOutcome, tokenOutcome, checkOutcome, clockAlone, serveCheck}
+use Rattle.protocol.specs.Outcomes.{Endpoint, Handed, outcome, outcomeBy, admit, authorizationEndpoint, tokenEndpoint, revocationEndpoint, checkEndpoint, authorizationOutcome, tokenOutcome, revocationOutcome, checkOutcome, withoutRandom, clockAlone, serveCheck}
 use Rattle.protocol.specs.declared.Refusal.the-variants.{Unfit}
 use Rattle.protocol.specs.declared.Decision.the-variants.{Refuse}
 use Rattle.protocol.specs.declared.Input.the-variants.{Store}
@@ -45,6 +45,12 @@ module _ (registry store : List ℕ) (fit : fitRegistry registry ≡ true) (othe
       ≡ record { answer = record { decision = Refuse (Unfit Store); challenge = false; length = 0 }; output = handed .output; store = store }
   token-refused header body handed forty room =
       refused-by (tokenEndpoint header body) handed (rw (le-ltb (length (handed .output)) 1024 room, forty))
+
+  pub revocation-refused : (header body : List ℕ) (clock : ℕ) (output : List ℕ) → 1024 ≤ length output
+      → revocationOutcome header body registry store clock output
+      ≡ record { answer = record { decision = Refuse (Unfit Store); challenge = false; length = 0 }; output = output; store = store }
+  revocation-refused header body clock output room =
+      refused-by (revocationEndpoint header body) (withoutRandom clock output) (le-ltb (length output) 1024 room)
 
   pub check-refused : (presented : List ℕ) (clock : ℕ)
       → checkOutcome presented registry store clock ≡ record { answer = Refused (Unfit Store); output = []; store = store }

@@ -2,8 +2,8 @@
 -- document 02 where it amends that.
 --
 -- In order: refusals 1 to 4; the authorization endpoint; the check; the token endpoint, its client_credentials grant, the halves of its
--- header and codes that are spent; codes with a challenge at both endpoints; the visit in runs of calls. That of a starred case is in `Starred`.
--- Each row carries that it agrees, so the claim follows for the whole list.
+-- header and codes that are spent; codes with a challenge at both endpoints; the revocation endpoint; the visit in runs of calls. That of
+-- a starred case is in `Starred`. Each row carries that it agrees, so the claim follows for the whole list.
 -- Assumes nothing.
 use mathlib.Core.List.{List, _++_}
 use Rattle.protocol.proofs.Cases.{Row, AllDecided, all-decided}
@@ -16,12 +16,14 @@ use Rattle.protocol.proofs.CredentialsCases.{credentialsCases}
 use Rattle.protocol.proofs.HeaderCases.{headerCases}
 use Rattle.protocol.proofs.SpentCases.{spentCases}
 use Rattle.protocol.proofs.ChallengeCases.{challengeCases, verifierCases}
-use Rattle.protocol.proofs.Visit.{night, day, tries, leak}
+use Rattle.protocol.proofs.RevocationCases.{revocationCases}
+use Rattle.protocol.proofs.Visit.{night, day, tries, leak, farewell}
 
 pub table : List Row
 table =
     buffers ++ order ++ slots ++ registries ++ manyClients ++ pages ++ errors ++ codes ++ roomAndClashes ++ times ++ held ++ checked
-    ++ tokenCases ++ credentialsCases ++ headerCases ++ spentCases ++ challengeCases ++ verifierCases ++ night ++ day ++ tries ++ leak
+    ++ tokenCases ++ credentialsCases ++ headerCases ++ spentCases ++ challengeCases ++ verifierCases ++ revocationCases
+    ++ night ++ day ++ tries ++ leak ++ farewell
 
 pub table-decided : AllDecided table
 table-decided = all-decided table

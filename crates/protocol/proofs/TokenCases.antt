@@ -37,7 +37,7 @@ use Rattle.protocol.specs.Token.{challengeAnswered, readExchange, readRe
 use Rattle.protocol.specs.Granting.{refusedPlan, exchangePlan, refreshPlan, planFor, slotsBy}
 use Rattle.protocol.specs.Outcomes.{replyText, serveToken}
 use Rattle.protocol.proofs.TokenRows.{agreesOn, rowOn}
-use Rattle.protocol.proofs.Cases.{token, ShortStore, holding, lastly, slot, linked, from, spent, countUp, Case, Row}
+use Rattle.protocol.proofs.Cases.{Call, token, ShortStore, holding, lastly, slot, linked, from, spent, countUp, Case, Row}
 
 -- ---- clients, slots and stores
 
@@ -209,10 +209,10 @@ pub record Visit : Type 0 where
   said : Said
   after : ShortStore
 
--- the same as a case of a table over a registry
-abbrev pub caseOn : List ℕ → Visit → Case
-caseOn registry v = record {
-  call = token (v .header) (v .body);
+-- the same as a case of a table over a registry, at an endpoint whose clients authenticate; at the token endpoint
+abbrev pub caseAt : (List ℕ → List ℕ → Call) → List ℕ → Visit → Case
+caseAt endpoint registry v = record {
+  call = endpoint (v .header) (v .body);
   registry = registry;
   store = v .store;
   clock = v .clock;
@@ -222,6 +222,9 @@ caseOn registry v = record {
   text = v .said .text;
   after = v .after;
 }
+
+abbrev pub caseOn : List ℕ → Visit → Case
+caseOn registry v = caseAt token registry v
 
 abbrev pub row : (v : Visit) → agreesOn clients (caseOn registry v) ≡ true → Row
 row v agreed = rowOn (caseOn registry v) registry-fit clients registry-clients agreed

@@ -2,6 +2,7 @@
 --
 -- A call that is refused so answers its number and nothing else, writes nothing and changes nothing: `after` is the store as it was.
 -- A call that passes is answered at once with what an empty query, an empty body or no token gets, and the store has its time.
+-- A revocation takes no random bytes, so its refusal 1 is for the output alone.
 --
 -- Not here: stores of another length (`StoreLength`).
 use Prim.Native.Nat.{ℕ, zero, suc, _+_, _-_, _^_}
@@ -28,17 +29,21 @@ use Rattle.protocol.specs.Authorization.{isBadQuery, queryClient, isBadC
 use Rattle.protocol.specs.ClientForms.{isInvalidForm, formReasons}
 use Rattle.protocol.specs.Token.{readToken, errorReply, refusalReply, challenges}
 use Rattle.protocol.specs.Granting.{refusedPlan, codePlan, planFor, slotsBy, checkSlots}
-use Rattle.protocol.specs.Outcomes.{serveAuthorization, replyText, serveToken, serveCheck}
-use Rattle.protocol.proofs.Cases.{Call, authorization, token, check, ShortStore, holding, lastly, slot, linked, challenge, challenging, countUp, Case, Row, row}
+use Rattle.protocol.specs.Revocation.{readRevocation, revocationReply}
+use Rattle.protocol.specs.Outcomes.{serveAuthorization, replyText, serveToken, serveRevocation, serveCheck}
+use Rattle.protocol.proofs.Cases.{Call, authorization, token, revocation, check, ShortStore, holding, lastly, slot, linked, challenge, challenging, countUp, Case, Row, row}
 
 -- ---- calls
 
--- an empty query, a body of no bytes with a header, and no token
+-- an empty query, a body of no bytes with a header at two endpoints, and no token
 abbrev emptyQuery : Call
 emptyQuery = authorization [] 1 7
 
 abbrev emptyBody : Call
 emptyBody = token (bytes "Basic czZCaGRSa3F0MzpnWDFmQmF0M2JW") []
+
+abbrev emptyRevocation : Call
+emptyRevocation = revocation (bytes "Basic czZCaGRSa3F0MzpnWDFmQmF0M2JW") []
 
 abbrev noToken : Call
 noToken = check []
@@ -47,22 +52,26 @@ noToken = check []
 abbrev enough : Call → List ℕ
 enough (authorization query decision farm) = countUp 20 0
 enough (token header body) = countUp 40 0
+enough (revocation header body) = []
 enough (check presented) = []
 
 -- a refusal's number alone; and the answer of a call that passes: page 6, 400 `invalid_request`, not live
 abbrev numberAlone : Call → ℕ → List ℕ
 numberAlone (authorization query decision farm) n = n ∷ 0 ∷ []
 numberAlone (token header body) n = n ∷ 0 ∷ 0 ∷ 0 ∷ []
+numberAlone (revocation header body) n = n ∷ 0 ∷ 0 ∷ 0 ∷ []
 numberAlone (check presented) n = n ∷ 0 ∷ 0 ∷ 0 ∷ 0 ∷ 0 ∷ []
 
 abbrev passNumbers : Call → List ℕ
 passNumbers (authorization query decision farm) = 6 ∷ 0 ∷ []
 passNumbers (token header body) = 0 ∷ 400 ∷ 1 ∷ 0 ∷ []
+passNumbers (revocation header body) = 0 ∷ 400 ∷ 1 ∷ 0 ∷ []
 passNumbers (check presented) = 0 ∷ 0 ∷ 0 ∷ 0 ∷ 0 ∷ 0 ∷ []
 
 abbrev passText : Call → List ℕ
 passText (authorization query decision farm) = []
 passText (token header body) = bytes "{\"error\":\"invalid_request\"}"
+passText (revocation header body) = bytes "{\"error\":\"invalid_request\"}"
 passText (check presented) = []
 
 -- refused with this number
@@ -102,7 +111,7 @@ abbrev buffersFit : Call → ℕ → List ℕ → Case
 buffersFit call room random = passes call room random sampleRegistry (holding 0 []) 1000
 
 pub buffers : List Row
-unfolding every same indexOf splitOn grow any indexWhere firstOr bigEndianBytes hexValue isHandleText unhex readHandle decodeAfter firstByte extra isEscape plain wellFormed sound isWellFormedForm pieceName pieceValue gives add valueIn formValue isMissing isRepeated onlyValue isOnce soundText soundId soundRedirect soundSecret soundField soundCommon soundPublic soundConfidential soundRecord recordSize recordsBehind soundRecords distinct fitRegistry recordOf registryOf sampleConfidential samplePublic sampleClients sampleRegistry freeSlot concat encodeSlot fitLink fitSlot wordText firstOf unlessRefused isBadQuery queryClient isBadClient isBadRedirect pageReasons redirectReasons readAuthorization locationText isInvalidForm formReasons readToken errorReply refusalReply challenges refusedPlan planFor slotsBy checkSlots serveAuthorization replyText serveToken serveCheck
+unfolding every same indexOf splitOn grow any indexWhere firstOr bigEndianBytes hexValue isHandleText unhex readHandle decodeAfter firstByte extra isEscape plain wellFormed sound isWellFormedForm pieceName pieceValue gives add valueIn formValue isMissing isRepeated onlyValue isOnce soundText soundId soundRedirect soundSecret soundField soundCommon soundPublic soundConfidential soundRecord recordSize recordsBehind soundRecords distinct fitRegistry recordOf registryOf sampleConfidential samplePublic sampleClients sampleRegistry freeSlot concat encodeSlot fitLink fitSlot wordText firstOf unlessRefused isBadQuery queryClient isBadClient isBadRedirect pageReasons redirectReasons readAuthorization locationText isInvalidForm formReasons readToken readRevocation errorReply refusalReply revocationReply challenges refusedPlan planFor slotsBy checkSlots serveAuthorization replyText serveToken serveRevocation serveCheck
 buffers =
     -- "output below 1,024"
     row (buffersUnfit emptyQuery 1023 (countUp 20 0)) refl
@@ -111,6 +120,10 @@ buffers =
     ∷ row (buffersUnfit emptyQuery 0 (countUp 20 0)) refl
     ∷ row (buffersUnfit emptyBody 1023 (countUp 40 0)) refl
     ∷ row (buffersFit emptyBody 1024 (countUp 40 0)) refl
+    ∷ row (buffersUnfit emptyRevocation 1023 []) refl
+    ∷ row (buffersFit emptyRevocation 1024 []) refl
+    ∷ row (buffersFit emptyRevocation 1025 []) refl
+    ∷ row (buffersUnfit emptyRevocation 0 []) refl
     -- "or random bytes not 20 (token: 40)"
     ∷ row (buffersUnfit emptyQuery 1024 (countUp 19 0)) refl
     ∷ row (buffersUnfit emptyQuery 1024 (countUp 21 0)) refl
@@ -134,36 +147,45 @@ abbrev usualPass : Call → ShortStore → ℕ → Case
 usualPass call store clock = passes call 1024 (enough call) sampleRegistry store clock
 
 pub order : List Row
-unfolding every same indexOf splitOn grow any indexWhere firstOr bigEndianBytes hexValue isHandleText unhex readHandle decodeAfter firstByte extra isEscape plain wellFormed sound isWellFormedForm pieceName pieceValue gives add valueIn formValue isMissing isRepeated onlyValue isOnce soundText soundId soundRedirect soundSecret soundField soundCommon soundPublic soundConfidential soundRecord recordSize recordsBehind soundRecords distinct fitRegistry recordOf registryOf sampleConfidential samplePublic sampleClients sampleRegistry freeSlot concat encodeSlot fitLink fitSlot wordText firstOf unlessRefused isBadQuery queryClient isBadClient isBadRedirect pageReasons redirectReasons readAuthorization locationText isInvalidForm formReasons readToken errorReply refusalReply challenges refusedPlan planFor slotsBy checkSlots serveAuthorization replyText serveToken serveCheck
+unfolding every same indexOf splitOn grow any indexWhere firstOr bigEndianBytes hexValue isHandleText unhex readHandle decodeAfter firstByte extra isEscape plain wellFormed sound isWellFormedForm pieceName pieceValue gives add valueIn formValue isMissing isRepeated onlyValue isOnce soundText soundId soundRedirect soundSecret soundField soundCommon soundPublic soundConfidential soundRecord recordSize recordsBehind soundRecords distinct fitRegistry recordOf registryOf sampleConfidential samplePublic sampleClients sampleRegistry freeSlot concat encodeSlot fitLink fitSlot wordText firstOf unlessRefused isBadQuery queryClient isBadClient isBadRedirect pageReasons redirectReasons readAuthorization locationText isInvalidForm formReasons readToken readRevocation errorReply refusalReply revocationReply challenges refusedPlan planFor slotsBy checkSlots serveAuthorization replyText serveToken serveRevocation serveCheck
 order =
     -- each two neighbours apply, then the second alone: 1 and 2, 2 and 3, 3 and 4, 4 and what comes behind
     row (refused emptyQuery 1023 (countUp 20 0) [] (holding 0 []) 1000 1) refl
     ∷ row (refused emptyBody 1024 (countUp 39 0) [] (holding 0 []) 1000 1) refl
+    ∷ row (refused emptyRevocation 1023 [] [] (holding 0 []) 1000 1) refl
     ∷ row (usual emptyQuery [] badStore 1000 2) refl
     ∷ row (usual emptyBody [] badStore 1000 2) refl
+    ∷ row (usual emptyRevocation [] badStore 1000 2) refl
     ∷ row (usual noToken [] badStore 1000 2) refl
     ∷ row (usual emptyQuery [] (holding 0 []) 1000 2) refl
     ∷ row (usual emptyBody [] (holding 0 []) 1000 2) refl
+    ∷ row (usual emptyRevocation [] (holding 0 []) 1000 2) refl
     ∷ row (usual noToken [] (holding 0 []) 1000 2) refl
     ∷ row (usual emptyQuery sampleRegistry badStore (2 ^ 40 + 1) 3) refl
     ∷ row (usual emptyBody sampleRegistry badStore (2 ^ 40 + 1) 3) refl
+    ∷ row (usual emptyRevocation sampleRegistry badStore (2 ^ 40 + 1) 3) refl
     ∷ row (usual noToken sampleRegistry badStore (2 ^ 40 + 1) 3) refl
     ∷ row (usual emptyQuery sampleRegistry badStore 1000 3) refl
     ∷ row (usual emptyBody sampleRegistry badStore 1000 3) refl
+    ∷ row (usual emptyRevocation sampleRegistry badStore 1000 3) refl
     ∷ row (usual noToken sampleRegistry badStore 1000 3) refl
     ∷ row (usual (authorization (bytes "%") 1 7) sampleRegistry (holding 0 []) (2 ^ 40 + 1) 4) refl
     ∷ row (usual emptyBody sampleRegistry (holding 0 []) (2 ^ 40 + 1) 4) refl
+    ∷ row (usual emptyRevocation sampleRegistry (holding 0 []) (2 ^ 40 + 1) 4) refl
     ∷ row (usual noToken sampleRegistry (holding 0 []) (2 ^ 40 + 1) 4) refl
     -- all four
     ∷ row (refused emptyQuery 1023 (countUp 20 0) [] badStore (2 ^ 40 + 1) 1) refl
     ∷ row (refused emptyBody 1023 (countUp 40 0) [] badStore (2 ^ 40 + 1) 1) refl
+    ∷ row (refused emptyRevocation 1023 [] [] badStore (2 ^ 40 + 1) 1) refl
     -- a clock of 2^40 is read; so is a mark of 2^40, one above is not
     ∷ row (usualPass emptyQuery (holding 0 []) (2 ^ 40)) refl
     ∷ row (usualPass emptyBody (holding 0 []) (2 ^ 40)) refl
+    ∷ row (usualPass emptyRevocation (holding 0 []) (2 ^ 40)) refl
     ∷ row (usualPass noToken (holding 0 []) (2 ^ 40)) refl
     ∷ row (usualPass noToken (holding (2 ^ 40) []) (2 ^ 40)) refl
     ∷ row (usual emptyQuery sampleRegistry (holding (2 ^ 40 + 1) []) 1000 3) refl
     ∷ row (usual emptyBody sampleRegistry (holding (2 ^ 40 + 1) []) 1000 3) refl
+    ∷ row (usual emptyRevocation sampleRegistry (holding (2 ^ 40 + 1) []) 1000 3) refl
     ∷ row (usual noToken sampleRegistry (holding (2 ^ 40 + 1) []) 1000 3) refl
     ∷ []
 

@@ -1,6 +1,6 @@
 -- Document 01's "A visit, written out" as three runs of calls, each call at the store as the one before it left it: the night after a code
 -- has run out, a visit from the code to a refreshed token, and tries that must not spend the code. A fourth is of document 02's third request:
--- a code is shown again, and its tokens are withdrawn.
+-- a code is shown again, and its tokens are withdrawn. A fifth is of its seventh: a refresh token is revoked.
 use Prim.Native.Nat.{ℕ, _+_}
 use Prim.Native.String.{String}
 use mathlib.Core.Path.{refl}
@@ -26,9 +26,10 @@ use Rattle.protocol.specs.Requests.{askedBy, scopeAsked, fits, scopeGive
 use Rattle.protocol.specs.Authorization.{isBadQuery, queryClient, isBadClient, isBadRedirect, isSoundState, isBadState, challengeGiven, isBadChallenge, isInvalidRequest, isOtherType, isInvalidScope, codeAsked, pageReasons, redirectReasons, readAuthorization, separator, stateText, location, codeParameter, errorParameter, locationText}
 use Rattle.protocol.specs.ClientForms.{isInvalidForm, lowerCase, sameAnyCase, credentials, isBadHeader, headerId, headerSecret, presentedId, presentedSecret, isUnclearId, isImpostor, callClient, isInvalidClient, formReasons}
 use Rattle.protocol.specs.Token.{challengeAnswered, readExchange, readRefresh, readGrant, readToken, errorReply, refusalReply, tokenReply, refreshMember, challenges}
-use Rattle.protocol.specs.Granting.{refusedPlan, codePlan, exchangePlan, refreshPlan, planFor, slotsBy, checkSlots}
-use Rattle.protocol.specs.Outcomes.{serveAuthorization, replyText, serveToken, serveCheck}
-use Rattle.protocol.proofs.Cases.{authorization, token, check, ShortStore, holding, slot, from, spent, countUp, Case, Row, row}
+use Rattle.protocol.specs.Revocation.{readRevocation, revocationReply}
+use Rattle.protocol.specs.Granting.{refusedPlan, codePlan, exchangePlan, refreshPlan, revocationPlan, planFor, slotsBy, checkSlots}
+use Rattle.protocol.specs.Outcomes.{serveAuthorization, replyText, serveToken, serveRevocation, serveCheck}
+use Rattle.protocol.proofs.Cases.{authorization, token, revocation, check, ShortStore, holding, slot, from, spent, countUp, Case, Row, row}
 use Rattle.protocol.proofs.Starred.{rfcQuery}
 
 -- ---- the calls of client 0, its code being for farm 7
@@ -98,6 +99,23 @@ checked presented clock numbers before after = record {
   after = after;
 }
 
+-- a revocation, which is handed no random bytes; the body that shows the refresh token
+abbrev revoked : String → List ℕ → ℕ → ℕ → ℕ → List ℕ → ShortStore → ShortStore → Case
+revoked header body clock status error text before after = record {
+  call = revocation (bytes header) body;
+  registry = sampleRegistry;
+  store = before;
+  clock = clock;
+  random = [];
+  room = 1024;
+  numbers = 0 ∷ status ∷ error ∷ 0 ∷ [];
+  text = text;
+  after = after;
+}
+
+abbrev refreshShown : List ℕ
+refreshShown = bytes "token=3435363738393a3b3c3d3e3f4041424344454647"
+
 -- barnapp's request with the code of client 0
 abbrev barnShows : String
 barnShows =
@@ -151,7 +169,7 @@ exchanged time = holding time (spent (codeFrom 0 1000) ∷ codeFrom 100 1000 ∷
 abbrev refreshed : ℕ → ShortStore
 refreshed time = holding time (lesser 1700 ∷ codeFrom 100 1000 ∷ access 0 1599 ∷ refresh 0 1599 ∷ [])
 
--- those of the fourth: the code is exchanged at 1100, its refresh token used at 1200, and all three tokens withdrawn
+-- those of the fourth and the fifth: the code is exchanged at 1100, its refresh token used at 1200, and all three tokens withdrawn or revoked
 
 abbrev pair : ℕ → ShortStore
 pair time = holding time (spent (codeFrom 0 1000) ∷ access 0 1100 ∷ refresh 0 1100 ∷ [])
@@ -225,4 +243,26 @@ leak =
     -- shown a third time; once it has run out its slot is used again
     ∷ row (invalidGrant basic firstCode 1599 (withdrawn 1400) (withdrawn 1599)) refl
     ∷ row (authorized 1600 100 "6465666768696a6b6c6d6e6f7071727374757677" (withdrawn 1599) (holding 1600 (codeFrom 100 1600 ∷ []))) refl
+    ∷ []
+
+-- "The farmer changes his mind.": a second before the first access token runs out its client revokes the refresh token, which another client
+-- could not. Both access tokens are live before and not after, nor is the refresh token good, with a clock set back by 3,600 either
+pub farewell : List Row
+unfolding rfcQuery every same indexOf splitOn grow count any indexWhere firstOr replaceFirst replaceAll bigEndianBytes hexText hexDigit hexValue isHandleText unhex readHandle isBase64 base64Bytes groupBytes soundGroup sextet none decodeAfter firstByte extra isEscape plain wellFormed sound encode encodeByte isWellFormedForm pieceName pieceValue gives add valueIn formValue isMissing isRepeated onlyValue isOnce names bitFrom bitOf union readScope chosen spaced scopeText soundText soundId soundRedirect soundSecret soundField soundCommon soundPublic soundConfidential soundRecord recordSize recordsBehind soundRecords distinct fitRegistry recordOf registryOf sampleConfidential samplePublic sampleClients sampleRegistry freeSlot concat encodeSlot fitLink fitSlot wordText firstOf askedBy scopeAsked fits scopeGiven unlessRefused isBadQuery queryClient isBadClient isBadRedirect isSoundState isBadState challengeGiven isBadChallenge isInvalidRequest isOtherType isInvalidScope codeAsked pageReasons redirectReasons readAuthorization separator stateText location codeParameter errorParameter locationText isInvalidForm lowerCase sameAnyCase credentials isBadHeader headerId headerSecret presentedId presentedSecret isUnclearId isImpostor callClient isInvalidClient formReasons challengeAnswered readExchange readRefresh readGrant readToken readRevocation errorReply refusalReply tokenReply refreshMember challenges revocationReply refusedPlan codePlan exchangePlan refreshPlan revocationPlan planFor slotsBy checkSlots serveAuthorization replyText serveToken serveRevocation serveCheck
+farewell =
+    row (authorized 1000 0 "000102030405060708090a0b0c0d0e0f10111213" (holding 0 []) (holding 1000 (codeFrom 0 1000 ∷ []))) refl
+    ∷ row (granted firstCode 1100 (holding 1000 (codeFrom 0 1000 ∷ [])) (pair 1100)) refl
+    ∷ row (refreshedAt 1200 (pair 1100) (family 1200)) refl
+    ∷ row (revoked "" (refreshShown ++ bytes "&client_id=barnapp") 4699 400 3 (bytes "{\"error\":\"invalid_grant\"}") (family 1200) (family 4699)) refl
+    ∷ row (checked accessText 4699 (1 ∷ 0 ∷ 7 ∷ 11 ∷ 1 ∷ []) (family 4699) (family 4699)) refl
+    ∷ row (checked lesserText 4699 (1 ∷ 0 ∷ 7 ∷ 3 ∷ 101 ∷ []) (family 4699) (family 4699)) refl
+    ∷ row (revoked basic refreshShown 4699 200 0 [] (family 4699) (withdrawn 4699)) refl
+    ∷ row (checked accessText 4699 notLive (withdrawn 4699) (withdrawn 4699)) refl
+    ∷ row (checked lesserText 4699 notLive (withdrawn 4699) (withdrawn 4699)) refl
+    ∷ row (invalidGrant basic refreshing 4699 (withdrawn 4699) (withdrawn 4699)) refl
+    ∷ row (checked accessText 1099 notLive (withdrawn 4699) (withdrawn 4699)) refl
+    ∷ row (checked lesserText 1099 notLive (withdrawn 4699) (withdrawn 4699)) refl
+    ∷ row (invalidGrant basic refreshing 1099 (withdrawn 4699) (withdrawn 4699)) refl
+    -- revoked once more, it is unknown
+    ∷ row (revoked basic refreshShown 4700 200 0 [] (withdrawn 4699) (withdrawn 4700)) refl
     ∷ []

@@ -14,7 +14,7 @@ use Rattle.octets.specs.Search.{count, any, firstOr, replaceFirst}
 use Rattle.token_store.specs.Store.{kindAccess, kindRefresh, codeKind, isBoundCode, isChallenged, isLive, isVacant, holds, soughtKey, linkTo, originOf, freeSlot, spentCode, withoutTokens, lifetimeOf, issue}
 use Rattle.token_store.specs.declared.Slot.{Slot}
 use Rattle.token_store.specs.declared.Sought.{Sought}
-use Rattle.token_store.specs.declared.Sought.the-variants.{Code as soughtCode, Spent as soughtSpent, Access as soughtAccess, Refresh as soughtRefresh}
+use Rattle.token_store.specs.declared.Sought.the-variants.{Code as soughtCode, Spent as soughtSpent, Access as soughtAccess, Refresh as soughtRefresh, Token as soughtToken}
 use Rattle.protocol.specs.declared.ErrorWord.the-variants.{InvalidGrant, InvalidScope, TemporarilyUnavailable, ServerError}
 use Rattle.protocol.specs.declared.Refusal.{Refusal}
 use Rattle.protocol.specs.declared.Refusal.the-variants.{Redirect, Token, Failed}
@@ -25,8 +25,9 @@ use Rattle.protocol.specs.declared.CodeRequest.{CodeRequest}
 use Rattle.protocol.specs.declared.ExchangeRequest.{ExchangeRequest}
 use Rattle.protocol.specs.declared.RefreshRequest.{RefreshRequest}
 use Rattle.protocol.specs.declared.CredentialsRequest.{CredentialsRequest}
+use Rattle.protocol.specs.declared.RevocationRequest.{RevocationRequest}
 use Rattle.protocol.specs.declared.Request.{Request}
-use Rattle.protocol.specs.declared.Request.the-variants.{Refused, Code, Exchange, Refresh, Credentials}
+use Rattle.protocol.specs.declared.Request.the-variants.{Refused, Code, Exchange, Refresh, Credentials, Revocation}
 use Rattle.protocol.specs.declared.Reading.{Reading}
 use Rattle.protocol.specs.declared.LiveToken.{LiveToken}
 use Rattle.protocol.specs.declared.CheckAnswer.{CheckAnswer}
@@ -80,7 +81,19 @@ isShownAgain t client presented slots =
 
 -- what an exchange that is refused leaves: "every token with that origin is cleared", where a code is shown again
 abbrev pub refusedSlots : ℕ → ℕ → HandleText → List Slot → List Slot
-refusedSlots t client presented slots = cond (isShownAgain t client presented slots) (withoutTokens (presented .bytes) slots) slots
+refusedSlots t client presented slots = cond (isShownAgain t client presented slots) (withoutTokens soughtToken (presented .bytes) slots) slots
+
+-- the slots without the token presented: "an access token is cleared, or a refresh token together with all access tokens of its
+-- origin"
+abbrev pub withoutShown : HandleText → List Slot → List Slot
+withoutShown presented slots =
+    let token = shownSlot soughtToken presented slots in
+    let others = replaceFirst (soughtKey soughtToken presented) freeSlot slots in
+    cond (eqb (token .kind) kindRefresh) (withoutTokens soughtAccess (originOf token) others) others
+
+-- what a revocation that is not refused leaves: "An unknown or run-out token (kinds 3 and 4 looked up together)" changes nothing
+abbrev pub revokedSlots : ℕ → HandleText → List Slot → List Slot
+revokedSlots t presented slots = cond (isLive t (shownSlot soughtToken presented slots)) (withoutShown presented slots) slots
 
 -- "A code holds its client, the farm the owner allowed and the scope granted"; "Expiry is T plus 600 (code) .."; "Codes with a
 -- challenge are kinds 6 and 7 (without and with bound redirect) and hold its 32 bytes", which are zero where there is none
@@ -130,7 +143,7 @@ pub record Plan : Type 0 where
   -- the slots after a grant, and after a refusal
   pub granted : List Slot
   pub denied : List Slot
-  -- the scope of what is issued, and whether a refresh token is
+  -- the scope of what is issued, 0 where nothing is, and whether a refresh token is
   pub scope : ℕ
   pub bringsRefresh : Bool
 
@@ -209,12 +222,25 @@ module _ (t : ℕ) (slots : List Slot) (random : List ℕ) where
   unfoldable pub credentialsPlan : CredentialsRequest → Plan
   credentialsPlan r = accessPlan t slots (clientToken t (firstHandle random) r)
 
+  -- "a live token of another client is `invalid_grant`"
+  unfoldable pub revocationPlan : HandleText → RevocationRequest → Plan
+  revocationPlan presented r =
+      let token = shownSlot soughtToken presented slots in
+      record {
+        reasons = when (isLive t token && not (eqb (token .client) (r .client))) (Token InvalidGrant) ∷ [];
+        granted = revokedSlots t presented slots;
+        denied = slots;
+        scope = 0;
+        bringsRefresh = false;
+      }
+
   unfoldable pub planFor : HandleText → DigestText → Request → Plan
   planFor presented challenge (Refused refusal) = refusedPlan refusal
   planFor presented challenge (Code r) = codePlan challenge r
   planFor presented challenge (Exchange r) = exchangePlan presented challenge r
   planFor presented challenge (Refresh r) = refreshPlan presented r
   planFor presented challenge (Credentials r) = credentialsPlan r
+  planFor presented challenge (Revocation r) = revocationPlan presented r
 
   abbrev pub planOf : Reading → Plan
   planOf reading = planFor (reading .presented) (reading .challenge) (reading .request)

@@ -30,6 +30,7 @@ use Rattle.protocol.specs.Answers.{statusOf}
 use Rattle.protocol.specs.Refusals.{Reason, when, firstOf}
 use Rattle.protocol.specs.Authorization.{queryClient, readAuthorization, locationText}
 use Rattle.protocol.specs.Token.{readToken, refusalReply, tokenReply, refreshMember, challenges}
+use Rattle.protocol.specs.Revocation.{readRevocation, revocationReply}
 use Rattle.protocol.specs.Granting.{Plan, firstHandle, secondHandle, planOf, decisionOn, slotsAfter, checkSlots}
 
 -- ---- any call
@@ -88,8 +89,11 @@ module _ {Answer : Type 0} (endpoint : Endpoint Answer) (registry store : List �
   outcome = outcomeBy (admit (endpoint .unfit handed) registry store (handed .clock))
 
 -- "output below 1,024, or random bytes not 20 (token: 40)"
+abbrev pub unfitOutput : List ℕ → Bool
+unfitOutput output = ltb (length output) leastOutput
+
 abbrev pub unfitBuffers : ℕ → List ℕ → List ℕ → Bool
-unfitBuffers randomSize random output = ltb (length output) leastOutput || not (eqb (length random) randomSize)
+unfitBuffers randomSize random output = unfitOutput output || not (eqb (length random) randomSize)
 
 -- ---- the authorization endpoint
 
@@ -110,6 +114,19 @@ authorizationEndpoint query decision farm = record {
 abbrev pub authorizationOutcome : List ℕ → ℕ → ℕ → List ℕ → List ℕ → Handed → Outcome AuthorizationAnswer
 authorizationOutcome query decision farm registry store handed = outcome (authorizationEndpoint query decision farm) registry store handed
 
+-- ---- calls whose clients authenticate
+
+-- the answer to what was decided, with the reply's length, and to refusals 1 to 4
+abbrev pub answerTo : List ℕ → Decision → ℕ → TokenAnswer
+answerTo header decided long = record { decision = decided; challenge = challenges (statusOf decided) header; length = long }
+
+abbrev pub unfitReply : Refusal → TokenAnswer
+unfitReply refusal = record { decision = Refuse refusal; challenge = false; length = 0 }
+
+-- what such a call comes to by its plan, with the reply's text
+abbrev pub servedBy : List ℕ → Plan → List ℕ → Served TokenAnswer
+servedBy header plan text = record { answer = answerTo header (decisionOn plan) (length text); text = text; slots = slotsAfter plan }
+
 -- ---- the token endpoint
 
 -- the reply to a decision on a plan: "the refresh token stays, and the reply has no refresh_token"
@@ -121,28 +138,45 @@ replyText random plan (Refuse refusal) = refusalReply refusal
 unfoldable pub serveToken : List ℕ → List ℕ → List Client → ℕ → List Slot → List ℕ → Served TokenAnswer
 serveToken header body clients t slots random =
     let plan = planOf t slots random (readToken clients header body) in
-    let decided = decisionOn plan in
-    let text = replyText random plan decided in
-    record {
-      answer = record { decision = decided; challenge = challenges (statusOf decided) header; length = length text };
-      text = text;
-      slots = slotsAfter plan;
-    }
+    servedBy header plan (replyText random plan (decisionOn plan))
 
 abbrev pub tokenEndpoint : List ℕ → List ℕ → Endpoint TokenAnswer
 tokenEndpoint header body = record {
   unfit = λ handed. unfitBuffers tokenRandom (handed .random) (handed .output);
-  refuse = λ refusal. record { decision = Refuse refusal; challenge = false; length = 0 };
+  refuse = unfitReply;
   serve = serveToken header body;
 }
 
 abbrev pub tokenOutcome : List ℕ → List ℕ → List ℕ → List ℕ → Handed → Outcome TokenAnswer
 tokenOutcome header body registry store handed = outcome (tokenEndpoint header body) registry store handed
 
+-- ---- the revocation endpoint
+
+-- "It takes no random bytes"
+abbrev pub withoutRandom : ℕ → List ℕ → Handed
+withoutRandom clock output = record { clock = clock; random = []; output = output }
+
+unfoldable pub serveRevocation : List ℕ → List ℕ → List Client → ℕ → List Slot → List ℕ → Served TokenAnswer
+serveRevocation header body clients t slots random =
+    let plan = planOf t slots random (readRevocation clients header body) in
+    servedBy header plan (revocationReply (decisionOn plan))
+
+-- "refusal 1 is for the output alone"
+abbrev pub revocationEndpoint : List ℕ → List ℕ → Endpoint TokenAnswer
+revocationEndpoint header body = record {
+  unfit = λ handed. unfitOutput (handed .output);
+  refuse = unfitReply;
+  serve = serveRevocation header body;
+}
+
+abbrev pub revocationOutcome : List ℕ → List ℕ → List ℕ → List ℕ → ℕ → List ℕ → Outcome TokenAnswer
+revocationOutcome header body registry store clock output =
+    outcome (revocationEndpoint header body) registry store (withoutRandom clock output)
+
 -- ---- the access token check, which is handed a clock alone and has no refusal 1
 
 abbrev pub clockAlone : ℕ → Handed
-clockAlone clock = record { clock = clock; random = []; output = [] }
+clockAlone clock = withoutRandom clock []
 
 unfoldable pub serveCheck : List ℕ → List Client → ℕ → List Slot → List ℕ → Served CheckAnswer
 serveCheck token clients t slots random = record { answer = checkSlots t slots (readHandle token); text = []; slots = slots }

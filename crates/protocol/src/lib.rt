@@ -91,6 +91,11 @@ pub struct CredentialsRequest {
     pub scope: u8,
 }
 
+// That the token presented, access or refresh, be good no more (RFC 7009).
+pub struct RevocationRequest {
+    pub client: u8,
+}
+
 // What is asked, or the refusal that came before the store was looked at.
 pub enum Request {
     Refused(Refusal),
@@ -98,9 +103,10 @@ pub enum Request {
     Exchange(ExchangeRequest),
     Refresh(RefreshRequest),
     Credentials(CredentialsRequest),
+    Revocation(RevocationRequest),
 }
 
-// A call as it was read: its request; the code or refresh token that it presents; and the code challenge (RFC 7636) that a
+// A call as it was read: its request; the code or token that it presents; and the code challenge (RFC 7636) that a
 // code is asked for with, or that an exchange answers by its verifier. A request that presents no code or token has a text
 // that is no handle, and one without a challenge a text that is no digest.
 pub struct Reading {
@@ -111,7 +117,7 @@ pub struct Reading {
 
 // ---- answers
 
-// Whether a call was granted: a code at the authorization endpoint, tokens at the token endpoint.
+// Whether a call was granted: a code at the authorization endpoint, tokens at the token endpoint; or a revocation done.
 pub enum Decision {
     Grant,
     Refuse(Refusal),
@@ -123,7 +129,7 @@ pub struct AuthorizationAnswer {
     pub length: usize,
 }
 
-// What the token endpoint answers: the decision, whether to send a WWW-Authenticate challenge, and how many bytes of
+// What the token and the revocation endpoint answer: the decision, whether to send a WWW-Authenticate challenge, and how many bytes of
 // reply it wrote.
 pub struct TokenAnswer {
     pub decision: Decision,

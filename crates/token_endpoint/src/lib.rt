@@ -55,12 +55,7 @@ fn serve(
     let granted = granting::grant(store, t, random, reading);
     let length = write_reply(output, random, granted);
     let decision = granted.decision;
-    let challenge = token_reply::challenge(decision, header);
-    TokenAnswer {
-        decision,
-        challenge,
-        length,
-    }
+    token_reply::answer(decision, header, length)
 }
 
 // Answers a token request. `header` is the Authorization field's value, empty where none came.
@@ -79,11 +74,7 @@ pub fn token(
 {
     let unfit = admission::unfit_buffers(TOKEN_RANDOM, random, output);
     match admission::enter(unfit, registry, store, clock) {
-        Admission::Refused(refusal) => TokenAnswer {
-            decision: Decision::Refuse(refusal),
-            challenge: false,
-            length: 0,
-        },
+        Admission::Refused(refusal) => token_reply::unfit(refusal),
         Admission::At(t) => serve(header, body, registry, store, t, random, output),
     }
 }

@@ -80,10 +80,9 @@ module _ {body : List ℕ} {places : List Place} (s : Stands tokenNames body pla
 
   pub token-there : isMissing (said 5) ≡ false → (p : HandleText) → p ≡ readHandle (onlyValue (said 5)) → (scope : ScopeAsked)
       → scope ≡ scopeAsked (said 6)
-      → (challenge : DigestText) → challenge ≡ noChallenge
-      → record { request = Refresh (record { client = number; scope = scope }); presented = p; challenge = challenge } ≡ readRefresh number body
+      → record { request = Refresh (record { client = number; scope = scope }); presented = p; challenge = noChallenge } ≡ readRefresh number body
   unfolding readRefresh unlessRefused firstOf
-  token-there e p ep scope es challenge ec = rw (ep, es, ec, s .at 6 (lit< tt) .value, s .at 5 (lit< tt) .value, rw (s .at 5 (lit< tt) .value) at e)
+  token-there e p ep scope es = rw (ep, es, s .at 6 (lit< tt) .value, s .at 5 (lit< tt) .value, rw (s .at 5 (lit< tt) .value) at e)
 
   module _ (clients : List RegisteredClient) where
     pub code-missing : isMissing (said 3) ≡ true → refusedReading (Token InvalidRequest) ≡ readExchange clients number body

@@ -2,11 +2,10 @@
 // (RFC 6749, sections 4.1.3, 4.4.2 and 6; RFC 7636, section 4.5).
 use client_forms::Caller;
 use client_forms::NEEDED;
+use client_forms::presenting;
+use client_forms::presenting_none;
+use client_forms::refuse;
 use client_registry::Entry;
-use encoding::DIGEST_SIZE;
-use encoding::DigestText;
-use encoding::HANDLE_SIZE;
-use encoding::HandleText;
 use form::PLACES;
 use form::Place;
 use protocol::CredentialsRequest;
@@ -14,7 +13,6 @@ use protocol::ErrorWord;
 use protocol::ExchangeRequest;
 use protocol::Reading;
 use protocol::RefreshRequest;
-use protocol::Refusal;
 use protocol::Request;
 ghost use mathlib.Core.Path.{_≡_};
 ghost use mathlib.Core.Bool.{true};
@@ -23,7 +21,6 @@ ghost use lib.ListN.{length};
 ghost use Rattle.form.specs.Places.{Stands};
 ghost use Rattle.client_registry.specs.Registry.{clientsOf, fitRegistry};
 ghost use Rattle.protocol.specs.Limits.{mostForm};
-ghost use Rattle.protocol.specs.Requests.{noChallenge, presentingNone, refusedReading};
 ghost use Rattle.protocol.specs.Token.{tokenNames, readExchange, readRefresh, readCredentials, readGrant, readToken};
 ghost use Rattle.client_forms.specs.Forms.{LetIn};
 
@@ -39,36 +36,6 @@ const REFRESH_TOKEN: usize = 5;
 const SCOPE: usize = 6;
 
 const CODE_VERIFIER: usize = 7;
-
-// The challenge of a request that answers none.
-fn no_challenge() -> DigestText
-    ensures { λ r. ⌜ r ≡ noChallenge ⌝ }
-{
-    DigestText {
-        valid: false,
-        bytes: [0u8; DIGEST_SIZE],
-    }
-}
-
-// A request that presents no code or token.
-fn presenting_none(request: Request) -> Reading
-    ensures { λ r. ⌜ r ≡ presentingNone request ⌝ }
-{
-    Reading {
-        request,
-        presented: HandleText {
-            valid: false,
-            bytes: [0u8; HANDLE_SIZE],
-        },
-        challenge: no_challenge(),
-    }
-}
-
-fn refuse(word: ErrorWord) -> Reading
-    ensures { λ r. ⌜ r ≡ refusedReading (Refusal.Token word) ⌝ }
-{
-    presenting_none(Request::Refused(Refusal::Token(word)))
-}
 
 // A request to exchange a code. Its scope is not looked at.
 fn read_exchange(registry: &[u8], body: &[u8], places: [Place; PLACES], client: Entry) -> Reading
@@ -106,14 +73,13 @@ fn read_refresh(body: &[u8], places: [Place; PLACES], client: Entry) -> Reading
     }
     let presented = parameters::handle_presented(body, token);
     let scope = parameters::scope_asked(body, asked);
-    Reading {
-        request: Request::Refresh(RefreshRequest {
+    presenting(
+        Request::Refresh(RefreshRequest {
             client: client.number,
             scope,
         }),
         presented,
-        challenge: no_challenge(),
-    }
+    )
 }
 
 // A request for an access token for the client itself: a confidential one, and a scope within its set.

@@ -25,10 +25,10 @@ use Rattle.octets.proofs.Stores.{sets-append}
 use Rattle.octets.proofs.BigEndian.{be-one, be-bytes, bytes-be, be-bound, be-bytes-one, length-be-bytes}
 use Rattle.encoding.specs.declared.HandleText.{HandleText}
 use Rattle.token_store.specs.Layout.{latestTime, handleSize, farmSize, expirySize, linkSize, fieldSizes, slotSize, atHandle, atClient, atFarm, atScope, atExpiry, atLink}
-use Rattle.token_store.specs.Store.{SlotFits, cut, concat, fieldsOf, ofFields, encodeSlot, decodeSlot, freeSlot, kindCode, kindBoundCode, kindChallengedCode, kindBoundChallengedCode, isChallenged, kindFree, isUsed, lifetimes, lifetimeOf, isLive, holds, isSought, soughtKey, shows}
+use Rattle.token_store.specs.Store.{SlotFits, cut, concat, fieldsOf, ofFields, encodeSlot, decodeSlot, freeSlot, kindCode, kindBoundCode, kindAccess, kindRefresh, kindChallengedCode, kindBoundChallengedCode, isChallenged, kindFree, isUsed, lifetimes, lifetimeOf, isLive, holds, isSought, soughtKey, shows}
 use Rattle.token_store.specs.declared.Slot.{Slot}
 use Rattle.token_store.specs.declared.Sought.{Sought}
-use Rattle.token_store.specs.declared.Sought.the-variants.{Code, Spent, Access, Refresh}
+use Rattle.token_store.specs.declared.Sought.the-variants.{Code, Spent, Access, Refresh, Token}
 use Rattle.token_store.proofs.Tables.{cut-from, cut-concat, concat-cut}
 
 -- ---- reading what was written
@@ -254,6 +254,7 @@ sought-used Code s e = ap not (code-fails (λ k. eqb k kindFree) refl refl refl 
 sought-used Spent s e = used (s .kind) 4 e
 sought-used Access s e = used (s .kind) 2 e
 sought-used Refresh s e = used (s .kind) 3 e
+sought-used Token s e = ap not (either-fails (λ k. eqb k kindFree) kindAccess kindRefresh refl refl (s .kind) e)
 
 -- a slot that a look-up takes is in use and has the handle presented
 pub key-holds : (q : Sought) (p : HandleText) (s : Slot) → soughtKey q p s ≡ true → holds (p .bytes) s ≡ true

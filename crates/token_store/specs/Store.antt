@@ -17,7 +17,7 @@ use Rattle.token_store.specs.declared.Found.the-variants.{At as Found·A
 use Rattle.token_store.specs.declared.Vacancy.{Vacancy}
 use Rattle.token_store.specs.declared.Vacancy.the-variants.{At as Vacancy·At, Full}
 use Rattle.token_store.specs.declared.Sought.{Sought}
-use Rattle.token_store.specs.declared.Sought.the-variants.{Code, Spent, Access, Refresh}
+use Rattle.token_store.specs.declared.Sought.the-variants.{Code, Spent, Access, Refresh, Token}
 
 pub record Store : Type 0 where
   pub time : ℕ
@@ -78,12 +78,13 @@ isTokenKind kind = eqb kind kindAccess || eqb kind kindRefresh
 abbrev pub isToken : Slot → Bool
 isToken s = isTokenKind (s .kind)
 
--- "for a code, 1 or 2", and with a challenge 6 or 7
+-- "for a code, 1 or 2", and with a challenge 6 or 7; "kinds 3 and 4 looked up together"
 abbrev pub isSought : Sought → Slot → Bool
 isSought Code s = eqb (s .kind) kindCode || eqb (s .kind) kindBoundCode || isChallenged s
 isSought Spent s = eqb (s .kind) kindSpent
 isSought Access s = eqb (s .kind) kindAccess
 isSought Refresh s = eqb (s .kind) kindRefresh
+isSought Token s = isToken s
 
 -- ---- links: "Each access and refresh token records the handle of the code it came from"; codes with a challenge "hold its 32
 -- bytes in the place where tokens hold their origin (zero again once spent as kind 5)"; "zero-filled"
@@ -153,13 +154,13 @@ shows p s = p .valid && same (p .bytes) (s .handle)
 abbrev pub soughtKey : Sought → HandleText → Slot → Bool
 soughtKey q p s = isSought q s && shows p s
 
--- a token that came from the code of this handle
-abbrev pub comesFrom : List ℕ → Slot → Bool
-comesFrom handle s = isToken s && same handle (originOf s)
+-- a token of a kind that is sought, which came from the code of this handle
+abbrev pub comesFrom : Sought → List ℕ → Slot → Bool
+comesFrom q handle s = isSought q s && same handle (originOf s)
 
--- "every token with that origin is cleared"
-abbrev pub withoutTokens : List ℕ → List Slot → List Slot
-withoutTokens origin slots = replaceAll freeSlot (comesFrom origin) slots
+-- "every token with that origin is cleared"; "all access tokens of its origin"
+abbrev pub withoutTokens : Sought → List ℕ → List Slot → List Slot
+withoutTokens q origin slots = replaceAll freeSlot (comesFrom q origin) slots
 
 -- ---- what a search of the slots gives, by the place of the first that passes
 

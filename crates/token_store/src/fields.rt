@@ -6,7 +6,7 @@ ghost use Prim.Native.Nat.{_+_, _<_, _≤_};
 ghost use lib.ListN.{length};
 ghost use Rattle.octets.specs.Lists.{part, same};
 ghost use Rattle.token_store.specs.Layout.{storeSize, slotCount, handleSize, linkSize, slotStart};
-ghost use Rattle.token_store.specs.Store.{decode, slotOf, isTokenKind, isChallengedKind, isLive, linkTo, comesFrom};
+ghost use Rattle.token_store.specs.Store.{decode, slotOf, isTokenKind, isChallengedKind, isLive, linkTo, originOf};
 
 // Where slot i starts.
 pub(crate) fn slot_start(i: usize) -> usize
@@ -56,14 +56,11 @@ pub(crate) fn is_challenged_kind(kind: u8) -> bool
     (kind == layout::KIND_CHALLENGED_CODE) | (kind == layout::KIND_BOUND_CHALLENGED_CODE)
 }
 
-// Whether slot i is a token that came from the code of this handle.
-pub(crate) fn comes_from(store: &[u8], i: usize, handle: &[u8]) -> bool
+// Whether the link of slot i begins with this handle: of a token, whether it came from the code of this handle.
+pub(crate) fn has_origin(store: &[u8], i: usize, handle: &[u8]) -> bool
     requires { ⌜ (length (now store) ≡ storeSize) × (i < slotCount) ⌝ }
-    ensures { λ r. ⌜ r ≡ comesFrom (now (handle .entry)) (slotOf (decode (now (store .entry))) i) ⌝ }
+    ensures { λ r. ⌜ r ≡ same (now (handle .entry)) (originOf (slotOf (decode (now (store .entry))) i)) ⌝ }
 {
-    if !is_token_kind(kind_of(store, i)) {
-        return false;
-    }
     let at = slot_start(i) + layout::AT_LINK;
     let end = at + layout::HANDLE_SIZE;
     octets::equal(handle, &store[at..end])

@@ -23,6 +23,7 @@ pub use search::has_room;
 pub use time::call_time;
 pub use time::lifetime;
 pub use time::set_time;
+pub use write::clear;
 pub use write::clear_tokens;
 pub use write::issue;
 pub use write::put;
@@ -70,12 +71,13 @@ impl Slot {
     }
 }
 
-// What a look-up is for: a code of any kind, a code that was exchanged, an access token or a refresh token.
+// What is sought: a code of any kind, a code that was exchanged, an access token, a refresh token, or a token of either kind.
 pub enum Sought {
     Code,
     Spent,
     Access,
     Refresh,
+    Token,
 }
 
 // What a look-up gives: a slot's number, or nothing.

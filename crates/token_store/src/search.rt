@@ -3,8 +3,10 @@ use crate::Found;
 use crate::Sought;
 use crate::Vacancy;
 use crate::fields::has_handle;
+use crate::fields::has_origin;
 use crate::fields::is_challenged_kind;
 use crate::fields::is_live;
+use crate::fields::is_token_kind;
 use crate::fields::kind_of;
 use crate::layout;
 use encoding::HandleText;
@@ -14,7 +16,7 @@ ghost use lib.ListN.{length};
 ghost use Rattle.token_store.specs.Layout.{storeSize, slotCount};
 ghost use lib.Dec.{leb};
 ghost use Rattle.octets.specs.Search.{indexWhere, count, any};
-ghost use Rattle.token_store.specs.Store.{decode, slotOf, isVacant, holds, isSought, soughtKey, foundAt, vacancyAt};
+ghost use Rattle.token_store.specs.Store.{decode, slotOf, isVacant, holds, isSought, soughtKey, comesFrom, foundAt, vacancyAt};
 
 // Whether slot i is of a kind that is sought.
 fn is_sought(store: &[u8], i: usize, sought: Sought) -> bool
@@ -29,6 +31,7 @@ fn is_sought(store: &[u8], i: usize, sought: Sought) -> bool
         Sought::Spent => kind == layout::KIND_SPENT,
         Sought::Access => kind == layout::KIND_ACCESS,
         Sought::Refresh => kind == layout::KIND_REFRESH,
+        Sought::Token => is_token_kind(kind),
     }
 }
 
@@ -42,6 +45,17 @@ fn matches(store: &[u8], i: usize, sought: Sought, presented: HandleText) -> boo
     }
     let handle = presented.bytes;
     presented.valid & has_handle(store, i, &handle)
+}
+
+// Whether slot i is a token of a kind that is sought and came from the code of this handle.
+pub(crate) fn comes_from(store: &[u8], i: usize, sought: Sought, handle: &[u8]) -> bool
+    requires { ⌜ (length (now store) ≡ storeSize) × (i < slotCount) ⌝ }
+    ensures { λ r. ⌜ r ≡ comesFrom sought (now (handle .entry)) (slotOf (decode (now (store .entry))) i) ⌝ }
+{
+    if !is_sought(store, i, sought) {
+        return false;
+    }
+    has_origin(store, i, handle)
 }
 
 // The lowest slot of a kind that is sought with the handle presented, run out or not.

@@ -1,9 +1,10 @@
-// Writing and issuing a slot, and freeing the tokens that came from a code.
+// Writing and issuing a slot, and freeing one, or the tokens that came from a code.
 use crate::Slot;
+use crate::Sought;
 use crate::Vacancy;
-use crate::fields::comes_from;
 use crate::fields::slot_start;
 use crate::layout;
+use crate::search::comes_from;
 use crate::search::vacant;
 ghost use mathlib.Core.Path.{_≡_};
 ghost use Prim.Native.Nat.{_<_};
@@ -49,22 +50,22 @@ pub fn issue(store: &mut [u8], t: u64, s: Slot)
 }
 
 // Frees slot i: all its bytes are zero.
-fn clear(store: &mut [u8], i: usize)
+pub fn clear(store: &mut [u8], i: usize)
     requires { ⌜ (length (now store) ≡ storeSize) × (i < slotCount) ⌝ }
     ensures { λ _. ⌜ decode (now (store .exit)) ≡ withSlot (decode (now (store .entry))) i freeSlot ⌝ }
 {
     octets::clear_at(store, slot_start(i), layout::SLOT_SIZE);
 }
 
-// Frees every token that came from the code of this handle; nothing else changes.
-pub fn clear_tokens(store: &mut [u8], handle: &[u8])
+// Frees every token of a kind that is sought which came from the code of this handle; nothing else changes.
+pub fn clear_tokens(store: &mut [u8], sought: Sought, handle: &[u8])
     requires { ⌜ length (now store) ≡ storeSize ⌝ }
     ensures { λ _.
         let before = decode (now (store .entry)) in
-        ⌜ decode (now (store .exit)) ≡ withSlots before (withoutTokens (now (handle .entry)) (before .slots)) ⌝ }
+        ⌜ decode (now (store .exit)) ≡ withSlots before (withoutTokens sought (now (handle .entry)) (before .slots)) ⌝ }
 {
     for i in 0..layout::SLOT_COUNT {
-        if comes_from(store, i, handle) {
+        if comes_from(store, i, sought, handle) {
             clear(store, i);
         }
     }

@@ -12,14 +12,16 @@
 //   decode VALUE                                what a value of a form decodes to, and in how many turns
 //   form NAME FORM                              what a form says of a name
 //   message TEXT                                the SHA-256 digest of a text
-//   repeated COUNT                              the digest of so many letters `a`
+//   letters COUNT                               the digest of so many letters `a`
 //   scope VALUE                                 what a scope value says, coded as in a form
 //   url TEXT                                    the digest that a base64url text stands for
 //   new                                         a token store with nothing in it
 //   authorize CLOCK DECISION FARM HEX QUERY     the exports, on that store and the registry of document 01's visit
 //   token CLOCK HEX BODY HEADER
+//   revoke CLOCK BODY HEADER
 //   check CLOCK TOKEN
 use authorization_server::CheckReply;
+use authorization_server::TokenReply;
 use client_registry::layout;
 use encoding::Base64Kind;
 use encoding::Decoded;
@@ -182,13 +184,13 @@ fn message(text: &[u8]) {
     digits(&digest);
 }
 
-fn repeated(count: &[u8]) {
-    let letters = [b'a'; MOST_LETTERS];
+fn letters(count: &[u8]) {
+    let all = [b'a'; MOST_LETTERS];
     let n = number(count);
     if (MOST_LETTERS as u64) < n {
         return;
     }
-    message(first(&letters, n as usize));
+    message(first(&all, n as usize));
 }
 
 fn url_digest(text: &[u8]) {
@@ -375,6 +377,13 @@ fn authorize(clock: &[u8], registry: &[u8], store: &mut [u8]) {
     );
 }
 
+// Writes the numbers that the token or the revocation endpoint answered, and the reply.
+fn replied(r: TokenReply, output: &[u8]) {
+    say_number(b"refusal ", r.refusal as u64);
+    say_number(b", challenge ", r.challenge as u64);
+    answered(b", status ", r.status, first(output, r.length));
+}
+
 fn token_with(
     header: &[u8],
     body: &[u8],
@@ -393,9 +402,7 @@ fn token_with(
         random,
         &mut output,
     );
-    say_number(b"refusal ", r.refusal as u64);
-    say_number(b", challenge ", r.challenge as u64);
-    answered(b", status ", r.status, first(&output, r.length));
+    replied(r, &output);
 }
 
 fn token(clock: &[u8], registry: &[u8], store: &mut [u8]) {
@@ -411,6 +418,20 @@ fn token(clock: &[u8], registry: &[u8], store: &mut [u8]) {
         number(clock),
         first(&random, n),
     );
+}
+
+fn revoke(clock: &[u8], registry: &[u8], store: &mut [u8]) {
+    let mut output = [0u8; limits::LEAST_OUTPUT];
+    let body = rest(clock);
+    let r = authorization_server::poplarchime_revoke(
+        rest(body),
+        word(body),
+        registry,
+        store,
+        number(clock),
+        &mut output,
+    );
+    replied(r, &output);
 }
 
 fn checked(r: CheckReply) {
@@ -437,10 +458,11 @@ fn run(command: u8, args: &[u8], registry: &[u8], store: &mut [u8]) {
         b'd' => decoded_in_turns(args),
         b'f' => form_says(args),
         b'h' => handle(args),
+        b'l' => letters(args),
         b'm' => message(args),
         b'n' => octets::clear_at(store, 0, store.len()),
         b'o' => octets_written(args),
-        b'r' => repeated(args),
+        b'r' => revoke(args, registry, store),
         b's' => scope_says(args),
         b't' => token(args, registry, store),
         b'u' => url_digest(args),

@@ -30,6 +30,10 @@ const VERIFIER: [u8; 128] = [b'v'; 128];
 const WITH_CHALLENGE: &str = "authorize with a challenge";
 const WITH_VERIFIER: &str = "exchange with a verifier";
 
+/// Revocations of a token that is in no slot, and of a refresh token with two access tokens.
+const UNKNOWN_REVOKED: &str = "revocation, token nowhere";
+const FAMILY_REVOKED: &str = "revocation of three tokens";
+
 /// A call that is made again and again.
 struct Case {
     name: &'static str,
@@ -45,6 +49,7 @@ enum Request {
     Token(Vec<u8>, String),
     /// The exchange of a code that is spent.
     SecondShowing(Vec<u8>, String),
+    Revoke(Vec<u8>, String),
 }
 
 impl Case {
@@ -66,7 +71,11 @@ impl Case {
             }
             Request::SecondShowing(header, body) => {
                 let reply = (program.token)(header, body.as_bytes(), registry, store, NOW, &RANDOM, output);
-                reply.status == 400 && store[sample::slot_range(BEHIND[1]).start] == sample::FREE
+                reply.status == 400 && is_free(store, BEHIND[1])
+            }
+            Request::Revoke(header, body) => {
+                let reply = (program.revoke)(header, body.as_bytes(), registry, store, NOW, output);
+                reply.status == 200 && is_free(store, PRESENTED) != (self.name == UNKNOWN_REVOKED)
             }
         }
     }
@@ -81,6 +90,10 @@ impl Case {
         }
         start.elapsed().as_nanos() as f64 / BATCH as f64
     }
+}
+
+fn is_free(store: &[u8], slot: usize) -> bool {
+    store[sample::slot_range(slot).start] == sample::FREE
 }
 
 const RANDOM: [u8; 40] = {
@@ -168,16 +181,16 @@ fn nowhere_case(clients: &[Client], live: usize) -> Case {
     check_case(NOWHERE, clients, live, sample::SLOTS)
 }
 
-/// A store in which the last slot but two is presented and the last two have run out. Behind a spent code they are live
-/// and came from it.
-fn presenting_store(clients: usize, live: usize, kind: u8) -> Vec<u8> {
+/// A store in which the last slot but two is presented and the last two have run out. Behind what clears them they are
+/// live: behind a spent code, from which they came, and behind a refresh token that is revoked, of their origin.
+fn presenting_store(clients: usize, live: usize, kind: u8, clearing: bool) -> Vec<u8> {
     let mut store = store(live, clients);
     sample::set_slot(&mut store, PRESENTED, slot(kind, PRESENTED, clients - 1));
     for number in BEHIND.into_iter().filter(|&number| number < live) {
         let token = slot(sample::ACCESS, number, clients - 1);
-        let token = match kind {
-            sample::SPENT => Slot { origin: handle(PRESENTED), ..token },
-            _ => Slot { expiry: NOW, ..token },
+        let token = match clearing {
+            true => Slot { origin: handle(PRESENTED), ..token },
+            false => Slot { expiry: NOW, ..token },
         };
         sample::set_slot(&mut store, number, token);
     }
@@ -192,13 +205,18 @@ fn authorize_case(name: &'static str, clients: &[Client], live: usize) -> Case {
         let challenge = sample::base64url(&sha256::digest(&VERIFIER));
         query.push_str(&format!("&code_challenge={challenge}&code_challenge_method=S256"));
     }
-    let store = presenting_store(clients.len(), live, sample::ACCESS);
+    let store = presenting_store(clients.len(), live, sample::ACCESS, false);
     Case { name, request: Request::Authorize(query), registry: sample::registry(clients), store }
 }
 
-fn token_case(name: &'static str, clients: &[Client], live: usize) -> Case {
+/// The header of the last client.
+fn header_of_last(clients: &[Client]) -> Vec<u8> {
     let last = clients.last().expect("a client");
-    let header = sample::basic_header(&last.id, last.secret.as_ref().expect("a secret"));
+    sample::basic_header(&last.id, last.secret.as_ref().expect("a secret"))
+}
+
+fn token_case(name: &'static str, clients: &[Client], live: usize) -> Case {
+    let header = header_of_last(clients);
     let presented = sample::hex(&handle(PRESENTED));
     let exchange = format!("grant_type=authorization_code&code={presented}");
     let (kind, body) = match name {
@@ -212,7 +230,15 @@ fn token_case(name: &'static str, clients: &[Client], live: usize) -> Case {
         sample::SPENT => Request::SecondShowing(header, body),
         _ => Request::Token(header, body),
     };
-    let store = presenting_store(clients.len(), live, kind);
+    let store = presenting_store(clients.len(), live, kind, kind == sample::SPENT);
+    Case { name, request, registry: sample::registry(clients), store }
+}
+
+/// The store is the same for a token that is nowhere.
+fn revoke_case(name: &'static str, clients: &[Client], live: usize) -> Case {
+    let token = if name == UNKNOWN_REVOKED { sample::SLOTS } else { PRESENTED };
+    let request = Request::Revoke(header_of_last(clients), format!("token={}", sample::hex(&handle(token))));
+    let store = presenting_store(clients.len(), live, sample::REFRESH, true);
     Case { name, request, registry: sample::registry(clients), store }
 }
 
@@ -239,8 +265,8 @@ fn main() {
     println!(
         "All slots are live but the ones that a call takes, which have run out. The last three are put back after each"
     );
-    println!("call (201 bytes, for both programs): the presented one and those that are taken, or cleared by a second showing.");
-    println!("The client is the last one.");
+    println!("call (201 bytes, for both programs): the presented one and those that are taken, or cleared by a second showing");
+    println!("or a revocation. The client is the last one.");
     println!("Both programs are optimised for plain x86-64.");
 }
 
@@ -257,6 +283,8 @@ fn full_store(title: &str, clients: &[Client]) {
         token_case("second showing", clients, live),
         token_case("refresh", clients, live),
         token_case("client credentials", clients, live),
+        revoke_case(UNKNOWN_REVOKED, clients, live),
+        revoke_case(FAMILY_REVOKED, clients, live),
     ];
     println!();
     println!("{title:<32}{:>8}{:>8}{:>8}", "ours", "plain", "ratio");

@@ -45,6 +45,8 @@ impl Kind {
     /// The codes that can be exchanged.
     pub const UNSPENT: [Kind; 4] = [Kind::Code, Kind::BoundCode, Kind::ChallengedCode, Kind::BoundChallengedCode];
 
+    pub const TOKENS: [Kind; 2] = [Kind::Access, Kind::Refresh];
+
     /// The kind of a code, by what it was asked for with.
     pub fn of_code(redirect_uri: bool, challenge: bool) -> Kind {
         match (redirect_uri, challenge) {
@@ -138,9 +140,7 @@ impl<'a> Store<'a> {
 
     /// The lowest slot of one of the kinds that has this handle, whether it has run out or not.
     pub fn find(&self, kinds: &[Kind], handle: &Handle) -> Option<(usize, Entry)> {
-        let number = self
-            .slots()
-            .position(|slot| kinds.iter().any(|&kind| slot[0] == kind as u8) && slot[HANDLE..CLIENT] == handle[..])?;
+        let number = self.slots().position(|slot| is_of(slot, kinds) && slot[HANDLE..CLIENT] == handle[..])?;
         Some((number, self.entry(number)?))
     }
 
@@ -195,11 +195,16 @@ impl<'a> Store<'a> {
         slot[CHALLENGE..].fill(0);
     }
 
-    /// Clears every access and refresh token of this origin, whoever's it is, run out or not.
-    pub fn clear_tokens(&mut self, origin: &Handle) {
+    /// Makes the slot free.
+    pub fn clear(&mut self, number: usize) {
+        self.slot_mut(number).fill(0);
+    }
+
+    /// Clears every token of these kinds and this origin, whoever's it is, run out or not.
+    pub fn clear_tokens(&mut self, kinds: &[Kind], origin: &Handle) {
         for slot in self.bytes[TIME_SIZE..].chunks_exact_mut(SLOT_SIZE) {
-            // A challenge may begin with the same bytes.
-            if is_token(slot) && slot[ORIGIN..ORIGIN_END] == origin[..] {
+            // Of a code, a challenge may begin with the same bytes.
+            if is_of(slot, kinds) && slot[ORIGIN..ORIGIN_END] == origin[..] {
                 slot.fill(0);
             }
         }
@@ -247,8 +252,9 @@ fn is_fit(slot: &[u8], clients: usize) -> bool {
     usize::from(slot[CLIENT]) < clients && slot[SCOPE] != 0 && fit_ending
 }
 
-fn is_token(slot: &[u8]) -> bool {
-    Kind::of_number(slot[0]).is_some_and(Kind::is_token)
+/// Whether the slot holds something of one of these kinds.
+fn is_of(slot: &[u8], kinds: &[Kind]) -> bool {
+    kinds.iter().any(|&kind| slot[0] == kind as u8)
 }
 
 fn is_vacant(slot: &[u8], now: u64) -> bool {

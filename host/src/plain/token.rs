@@ -1,18 +1,27 @@
-//! The token endpoint (RFC 6749 sections 2.3.1, 3.2, 4.1.2 to 4.1.4, 4.4, 5 and 6, RFC 7636 section 4.6).
+//! The token endpoint (RFC 6749 sections 3.2, 4.1.2 to 4.1.4, 4.4, 5 and 6, RFC 7636 section 4.6).
 
-use super::base64;
-use super::form::{self, Field, Form};
+use super::client_form::{error_reply, ClientForm, Names};
 use super::handle::{self, Handle, HANDLE_SIZE};
 use super::pkce;
 use super::registry::Registry;
 use super::scope::ScopeSet;
 use super::store::{Entry, Grant, Kind, NO_FARM};
-use super::{admit, write, Admitted, Unfit, FORM_LIMIT, LEAST_OUTPUT};
+use super::{admit, write, Admitted, Unfit, LEAST_OUTPUT};
 use crate::answers::{ErrorWord, TokenReply};
 
-const HEADER_LIMIT: usize = 512;
-const KNOWN_NAMES: [&str; 8] =
-    ["grant_type", "code", "redirect_uri", "client_id", "client_secret", "refresh_token", "scope", "code_verifier"];
+const NAMES: Names = Names {
+    known: &[
+        "grant_type",
+        "code",
+        "redirect_uri",
+        "client_id",
+        "client_secret",
+        "refresh_token",
+        "scope",
+        "code_verifier",
+    ],
+    needed: "grant_type",
+};
 
 /// A well-formed request of an authenticated client.
 #[derive(Clone, Debug, PartialEq, Eq)]
@@ -69,7 +78,7 @@ pub fn token(
     };
     match granted {
         Ok(reply) => TokenReply { status: 200, length: write(reply.as_bytes(), output), ..TokenReply::default() },
-        Err(Denial::Error(word)) => error_reply(word, !header.is_empty(), output),
+        Err(Denial::Error(word)) => error_reply(word, header, output),
         Err(Denial::NoRoom) => TokenReply { status: 503, ..TokenReply::default() },
         Err(Denial::Clash) => TokenReply { status: 500, ..TokenReply::default() },
     }
@@ -81,47 +90,23 @@ fn split_random(random: &[u8]) -> Option<[Handle; 2]> {
     Some([first.try_into().ok()?, second.try_into().ok()?])
 }
 
-fn error_reply(word: ErrorWord, header_came: bool, output: &mut [u8]) -> TokenReply {
-    let unauthorized = word == ErrorWord::InvalidClient;
-    TokenReply {
-        refusal: 0,
-        status: if unauthorized { 401 } else { 400 },
-        error: word.number(),
-        challenge: (unauthorized && header_came).into(),
-        length: write(format!("{{\"error\":\"{}\"}}", word.text()).as_bytes(), output),
-    }
-}
-
 impl Request {
     /// Reads and authenticates. Every refusal up to a missing code or refresh token is an error here.
     pub fn read(header: &[u8], body: &[u8], registry: &Registry) -> Result<Request, ErrorWord> {
-        if body.len() > FORM_LIMIT {
-            return Err(ErrorWord::InvalidRequest);
-        }
-        let form = Form::read(body).map_err(|_| ErrorWord::InvalidRequest)?;
-        if KNOWN_NAMES.iter().any(|name| form.field(name) == Field::Repeated) {
-            return Err(ErrorWord::InvalidRequest);
-        }
-        let value = |name| form.field(name).value();
-        let grant_type = value("grant_type").ok_or(ErrorWord::InvalidRequest)?;
-        if !header.is_empty() && value("client_secret").is_some() {
-            return Err(ErrorWord::InvalidRequest);
-        }
-        let client = authenticate(header, value("client_id"), value("client_secret"), registry)
-            .ok_or(ErrorWord::InvalidClient)?;
-        let required = |name| value(name).map(<[u8]>::to_vec).ok_or(ErrorWord::InvalidRequest);
-        let optional = |name| value(name).map(<[u8]>::to_vec);
-        let asked = match grant_type {
+        let form = ClientForm::read(header, body, registry, &NAMES)?;
+        let asked = match &form.required("grant_type")?[..] {
             b"authorization_code" => Asked::Exchange {
-                code: required("code")?,
-                redirect: optional("redirect_uri"),
-                verifier: optional("code_verifier"),
+                code: form.required("code")?,
+                redirect: form.optional("redirect_uri"),
+                verifier: form.optional("code_verifier"),
             },
-            b"refresh_token" => Asked::Refresh { token: required("refresh_token")?, scope: optional("scope") },
-            b"client_credentials" => Asked::ClientCredentials { scope: optional("scope") },
+            b"refresh_token" => {
+                Asked::Refresh { token: form.required("refresh_token")?, scope: form.optional("scope") }
+            }
+            b"client_credentials" => Asked::ClientCredentials { scope: form.optional("scope") },
             _ => return Err(ErrorWord::UnsupportedGrantType),
         };
-        Ok(Request { client, asked })
+        Ok(Request { client: form.client, asked })
     }
 
     /// Issues the tokens in the store and gives the reply.
@@ -174,7 +159,7 @@ impl Request {
     /// lived, showing it again clears every token that came from it.
     fn show_again(&self, code: &Handle, admitted: &mut Admitted) {
         if self.find(&[Kind::Spent], code, admitted).is_ok() {
-            admitted.store.clear_tokens(code);
+            admitted.store.clear_tokens(&Kind::TOKENS, code);
         }
     }
 
@@ -228,41 +213,6 @@ fn issue_access(grant: &Grant, origin: &Handle, admitted: &mut Admitted, access:
     }
     store.issue_token(Kind::Access, access, grant, origin, *now);
     Ok(reply(access, None, grant.scope))
-}
-
-/// The client whose id and secret are presented, in the header or in the body.
-fn authenticate(header: &[u8], id: Option<&[u8]>, secret: Option<&[u8]>, registry: &Registry) -> Option<usize> {
-    if header.is_empty() {
-        let client = registry.find(id?)?;
-        return (registry.client(client).secret == secret).then_some(client);
-    }
-    let (header_id, header_secret) = header_credentials(header)?;
-    if id.is_some_and(|id| id != header_id) {
-        return None;
-    }
-    let client = registry.find(&header_id)?;
-    (registry.client(client).secret == Some(&header_secret[..])).then_some(client)
-}
-
-/// The id and secret in the header: they part at the first colon, and were form-coded each by itself.
-fn header_credentials(header: &[u8]) -> Option<(Vec<u8>, Vec<u8>)> {
-    let credentials = basic_credentials(header)?;
-    let colon = credentials.iter().position(|&byte| byte == b':')?;
-    let (id, secret) = (&credentials[..colon], &credentials[colon + 1..]);
-    Some((form::decode(id).ok()?, form::decode(secret).ok()?))
-}
-
-/// What a header of the Basic scheme (RFC 7617) holds.
-fn basic_credentials(header: &[u8]) -> Option<Vec<u8>> {
-    if header.len() > HEADER_LIMIT {
-        return None;
-    }
-    let (scheme, rest) = header.split_at_checked(5)?;
-    let encoded = rest.strip_prefix(b" ")?;
-    if !scheme.eq_ignore_ascii_case(b"Basic") {
-        return None;
-    }
-    base64::decode(encoded)
 }
 
 /// The body of a 200 (RFC 6749 section 5.1).

@@ -6,7 +6,9 @@ use poplarchime_host::sample::{self, Slot, FORMER_SIZES, FORMER_SLOTS, SLOTS, SL
 
 use crate::support::compare::run_both;
 use crate::support::draft::{Action, Draft};
-use crate::support::host::{bad_request, exchange_body, redirected, refresh_body, Authorized, Host, BARNAPP, BASIC};
+use crate::support::host::{
+    bad_request, exchange_body, redirected, refresh_body, revocation_body, revoked, Authorized, Host, BARNAPP, BASIC,
+};
 use crate::support::pkce;
 
 const NOW: u64 = 1000;
@@ -52,6 +54,7 @@ fn draft(action: Action, store: &[u8], place: usize) -> Draft {
         Action::Authorize => Draft::authorize(&clients, store, NOW, 0, &random[..20]),
         Action::Exchange | Action::Refresh => Draft::token(action, &clients, store, NOW, place, random),
         Action::ClientCredentials => Draft::client_credentials(&clients, store, NOW, 0, random),
+        Action::Revoke => Draft::revoke(&clients, store, NOW, place),
         Action::Check => Draft::check(&clients, store, NOW, place),
     }
 }
@@ -326,6 +329,18 @@ fn a_second_showing_clears_tokens_in_every_slot() {
         assert_eq!(reply, bad_request("invalid_grant"));
         let in_use: Vec<usize> = (0..SLOTS).filter(|&number| host.slot(number) != Slot::default()).collect();
         assert_eq!(in_use, [place]);
+    }
+}
+
+#[test]
+fn a_revocation_clears_tokens_in_every_slot() {
+    let mut host = Host::visit();
+    host.set_slots(0..SLOTS, Slot { origin: handle(0), ..live_slot(sample::ACCESS, SLOTS) });
+    for place in 0..SLOTS {
+        let mut host = host.clone();
+        host.set_slot(place, live_slot(sample::REFRESH, 0));
+        assert_eq!(host.revoke(BASIC, revocation_body(&handle(0)), NOW), revoked());
+        assert!(host.store[8..].iter().all(|&byte| byte == 0), "slot {place}");
     }
 }
 

@@ -77,6 +77,13 @@ fn error_words_and_scopes() {
 }
 
 #[test]
+fn the_endpoints_are_declared() {
+    let declared: Vec<&str> =
+        HEADER.lines().filter(|line| line.ends_with('(')).filter_map(|line| line.split([' ', '(']).nth(2)).collect();
+    assert_eq!(declared, ["poplarchime_authorize", "poplarchime_token", "poplarchime_revoke", "poplarchime_check"]);
+}
+
+#[test]
 fn answers_have_the_size_that_c_gives_them() {
     assert_eq!(size_of::<Authorization>(), 16);
     assert_eq!(size_of::<TokenReply>(), 24);

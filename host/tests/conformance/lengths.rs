@@ -6,6 +6,7 @@ use poplarchime_host::sample::{self, Client, Slot};
 
 use crate::support::compare::run_both;
 use crate::support::draft::{Action, Draft};
+use crate::support::faults::present;
 use crate::support::writing;
 
 const NOW: u64 = 1000;
@@ -31,6 +32,7 @@ fn draft_of(action: Action, clients: &Arc<[Client]>) -> Draft {
         }
         Action::Refresh => Draft::token(action, clients, &store(), NOW, 2, RANDOM),
         Action::ClientCredentials => Draft::client_credentials(clients, &store(), NOW, 0, RANDOM),
+        Action::Revoke => Draft::revoke(clients, &store(), NOW, 2),
         Action::Check => Draft::check(clients, &store(), NOW, 1),
     }
 }
@@ -58,7 +60,7 @@ fn random_bytes() {
 
 #[test]
 fn output() {
-    for action in Action::ISSUING {
+    for action in Action::WRITING {
         for length in (0..40).chain(1000..1050) {
             let mut draft = draft(action);
             draft.output = length;
@@ -69,7 +71,7 @@ fn output() {
 
 #[test]
 fn queries_and_bodies() {
-    for action in Action::ISSUING {
+    for action in Action::WRITING {
         for length in 4080..4120 {
             let mut draft = draft(action);
             draft.padded_to = length;
@@ -82,7 +84,7 @@ fn queries_and_bodies() {
 #[test]
 fn headers() {
     // No header of 512 bytes or around admits anyone; the longest that does has 394.
-    for action in Action::GRANTS {
+    for action in Action::BY_CLIENTS {
         for length in (0..20).chain(500..530) {
             let mut draft = draft(action);
             let mut header = sample::basic_header(b"s6BhdRkqt3", &[b'x'; 400]);
@@ -96,10 +98,10 @@ fn headers() {
             Client { id: id.into(), secret: Some(secret.into()), ..Client::public("", "https://long.example/", 1) };
         let mut draft = draft_of(action, &vec![longest].into());
         assert_eq!(draft.header.written().len(), 138);
-        expect(&draft, "200");
+        expect(&draft, action.granted());
         draft.authenticate_by_header(writing::basic_header(&id, &secret, |text, _| writing::full(text)));
         assert_eq!(draft.header.written().len(), 394);
-        expect(&draft, "200");
+        expect(&draft, action.granted());
     }
 }
 
@@ -116,25 +118,17 @@ fn states() {
 
 #[test]
 fn handles() {
-    for action in [Action::Exchange, Action::Refresh, Action::Check] {
+    for action in Action::ALL.into_iter().filter(|action| action.presents()) {
         for length in 0..=60 {
             let mut draft = draft(action);
             let mut text = draft.presented_slot().handle_text();
             text.truncate(length);
             text.push_str(&"0".repeat(length - text.len()));
+            present(&mut draft, text);
             let (outcome, missing) = match action {
-                Action::Exchange => {
-                    draft.params.set("code", &text);
-                    ("400 invalid_grant", "400 invalid_request")
-                }
-                Action::Refresh => {
-                    draft.params.set("refresh_token", &text);
-                    ("400 invalid_grant", "400 invalid_request")
-                }
-                _ => {
-                    draft.token = text.into();
-                    ("not live", "not live")
-                }
+                Action::Revoke => ("200", "400 invalid_request"),
+                Action::Check => ("not live", "not live"),
+                _ => ("400 invalid_grant", "400 invalid_request"),
             };
             expect(
                 &draft,

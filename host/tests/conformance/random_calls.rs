@@ -15,7 +15,7 @@ use crate::support::second_showing::second_showing;
 use crate::support::tally::Tally;
 use crate::support::world::{random_clients, Start, World};
 
-const SEQUENCES: usize = 6_300;
+const SEQUENCES: usize = 6_900;
 const CALLS: usize = 110;
 /// Each outcome and each reason must come up at least so often in all.
 const LEAST: usize = 25;
@@ -34,6 +34,9 @@ struct Counts {
     /// Calls that showed a code a second time, and how many of them cleared tokens.
     second_showings: usize,
     clearing: usize,
+    /// Calls that revoked a token, and how many of them cleared access tokens along with a refresh token.
+    revocations: usize,
+    families: usize,
     /// Codes that were issued with a challenge, and those that were exchanged by its verifier.
     challenged: usize,
     by_verifier: usize,
@@ -68,11 +71,13 @@ fn both_programs_agree_on_random_calls() {
     counts.outcomes.require("outcomes of random calls", &outcomes, LEAST);
     counts.reasons.require("what was done to random calls", &World::reasons(), LEAST);
     assert_eq!(counts.outcomes.total(), SEQUENCES * CALLS);
-    assert!(counts.carried >= 420_000, "too few calls carried the store along");
+    assert!(counts.carried >= 450_000, "too few calls carried the store along");
     assert!(counts.granted * 2 > counts.sound, "too few sound requests were granted");
     assert!(counts.by_coded_header >= 50_000, "too few clients were admitted by form-coded credentials");
     assert!(counts.second_showings >= 8_000, "too few codes were shown a second time");
     assert!(counts.clearing >= 5_000, "too few second showings cleared tokens");
+    assert!(counts.revocations >= 15_000, "too few tokens were revoked");
+    assert!(counts.families >= 2_000, "too few access tokens went with their refresh token");
     assert!(counts.challenged >= 30_000, "too few codes were issued with a challenge");
     assert!(counts.by_verifier >= 15_000, "too few codes were exchanged by a verifier");
 }
@@ -87,6 +92,8 @@ impl Counts {
         self.by_coded_header += other.by_coded_header;
         self.second_showings += other.second_showings;
         self.clearing += other.clearing;
+        self.revocations += other.revocations;
+        self.families += other.families;
         self.challenged += other.challenged;
         self.by_verifier += other.by_verifier;
     }
@@ -105,6 +112,7 @@ impl Counts {
         println!("{} had nothing wrong put in, {} of them were granted or live", self.sound, self.granted);
         println!("{} got tokens by credentials with a % or + in the header", self.by_coded_header);
         println!("{} showed a code a second time, {} of them cleared tokens", self.second_showings, self.clearing);
+        println!("{} revoked a token, {} of them a refresh token with access tokens", self.revocations, self.families);
         println!("{} got a code with a challenge, {} exchanged one by its verifier", self.challenged, self.by_verifier);
     }
 }
@@ -145,7 +153,7 @@ fn one_call(world: &mut World, rng: &mut Rng, counts: &mut Counts) {
     counts.outcomes.add(format!("{}: {outcome}", drawn.action.name()));
     if drawn.sound {
         counts.sound += 1;
-        counts.granted += usize::from(["code", "200", "live"].contains(&&outcome[..]));
+        counts.granted += usize::from(outcome == drawn.action.granted());
     }
     if let Request::Token { header, .. } = &drawn.call.request {
         let coded = credentials_in(header).is_some_and(|held| held.contains(&b'%') || held.contains(&b'+'));
@@ -154,6 +162,10 @@ fn one_call(world: &mut World, rng: &mut Rng, counts: &mut Counts) {
     if after.answer.refusal() == 0 && second_showing(&drawn.call, &drawn.store).is_some() {
         counts.second_showings += 1;
         counts.clearing += usize::from(!after.cleared.is_empty());
+    }
+    if drawn.action == Action::Revoke {
+        counts.revocations += usize::from(!after.cleared.is_empty());
+        counts.families += usize::from(after.cleared.len() > 1);
     }
     if after.answer.issued() {
         counts.add_challenged(&drawn.store, &after.store);

@@ -88,6 +88,11 @@ fn sound_drafts(action: Action) -> Vec<Draft> {
         Action::ClientCredentials => {
             [0, 2, 3, 4, 5].map(|client| Draft::client_credentials(&clients, &store, NOW, client, random)).into()
         }
+        Action::Revoke => {
+            let of = |kind| (0..6).map(move |client| place(client, kind));
+            let places = of(sample::ACCESS).chain(of(sample::REFRESH));
+            places.map(|place| Draft::revoke(&clients, &store, NOW, place)).collect()
+        }
         Action::Check => {
             (0..5).map(|client| Draft::check(&clients, &store, NOW, place(client, sample::ACCESS))).collect()
         }
@@ -177,6 +182,6 @@ fn the_first_reason_counts() {
         }
     }
     println!("{pairs} pairs of reasons, {clearing} of them clear tokens");
-    assert!(pairs > 700_000, "only {pairs} pairs");
+    assert!(pairs > 950_000, "only {pairs} pairs");
     assert!(clearing > 5_000, "only {clearing} pairs clear tokens");
 }

@@ -6,7 +6,8 @@ use poplarchime_host::sample::{self, Client, Slot};
 use crate::support::call::{Call, Request};
 use crate::support::compare::run_both;
 use crate::support::host::{
-    bad_request, counting, exchange_body, redirected, refresh_body, Authorized, Host, BARNAPP, BY_BARNAPP,
+    bad_request, counting, exchange_body, redirected, refresh_body, revocation_body, revoked, Authorized, Host,
+    BARNAPP, BY_BARNAPP,
 };
 use crate::support::pkce;
 
@@ -17,7 +18,7 @@ fn basic(client: &Client) -> Vec<u8> {
     client.secret.as_ref().map_or(Vec::new(), |secret| sample::basic_header(&client.id, secret))
 }
 
-/// Authorize, exchange, check, refresh and client credentials for one client of a registry.
+/// Authorize, exchange, check, refresh, client credentials and revocation for one client of a registry.
 fn whole_visit(clients: &[Client], number: usize) {
     let client = &clients[number];
     let mut host = Host::new(clients);
@@ -47,6 +48,10 @@ fn whole_visit(clients: &[Client], number: usize) {
         Some(_) => {
             assert_eq!(host.check(sample::hex(&counting(0xa0)), 1000), CheckAnswer { farm: 0, ..expected });
         }
+    }
+    assert_eq!(host.revoke(basic(client), revocation_body(&counting(0x34)) + &by_id, 1000), revoked());
+    for access in [0x20, 0x60] {
+        assert_eq!(host.check(sample::hex(&counting(access)), 1000), CheckAnswer::default());
     }
 }
 
@@ -283,6 +288,8 @@ fn empty_slices_are_fine() {
     assert_eq!(run_both(&query, &store).answer.outcome(), "refusal 6");
     let body = call(Request::Token { header: Vec::new(), body: Vec::new() }, 40);
     assert_eq!(run_both(&body, &store).answer.outcome(), "400 invalid_request");
+    let revocation = call(Request::Revoke { header: Vec::new(), body: Vec::new() }, 0);
+    assert_eq!(run_both(&revocation, &store).answer.outcome(), "400 invalid_request");
     let token = call(Request::Check { token: Vec::new() }, 0);
     assert_eq!(run_both(&token, &store).answer.outcome(), "not live");
     assert_eq!(run_both(&token, &[]).answer.outcome(), "refusal 3");

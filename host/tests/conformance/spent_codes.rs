@@ -5,8 +5,8 @@ use poplarchime_host::answers::CheckAnswer;
 use poplarchime_host::sample::{self, Slot};
 
 use crate::support::host::{
-    bad_request, counting, exchange_body, redirected, refresh_body, unauthorized, Authorized, Host, BARNAPP, BASIC,
-    BY_BARNAPP,
+    around_expiry, bad_request, counting, exchange_body, redirected, refresh_body, unauthorized, Authorized, Host,
+    BARNAPP, BASIC, BY_BARNAPP,
 };
 use crate::support::pkce;
 
@@ -42,9 +42,7 @@ fn host() -> Host {
 fn cleared_by(host: &mut Host, header: &str, body: &str, clock: u64) -> Vec<usize> {
     let before = host.clone();
     assert_eq!(host.token(header, body, clock, 0x20), bad_request("invalid_grant"));
-    let changed: Vec<usize> = (0..sample::SLOTS).filter(|&number| host.slot(number) != before.slot(number)).collect();
-    assert!(changed.iter().all(|&number| host.slot(number) == Slot::default()), "changed and not cleared");
-    changed
+    host.cleared_since(&before)
 }
 
 /// What client 0 clears by showing the code.
@@ -213,19 +211,7 @@ fn another_clients_showing_clears_nothing() {
 
 #[test]
 fn from_its_old_expiry_on_nothing_is_cleared() {
-    let last = 1 << 40;
-    for (expiry, latest, clock, clears) in [
-        (EXPIRY, 0, EXPIRY - 1, true),
-        (EXPIRY, 0, EXPIRY, false),
-        (EXPIRY, 0, EXPIRY + 1, false),
-        (EXPIRY, EXPIRY - 1, 0, true),
-        (EXPIRY, EXPIRY, 0, false),
-        (EXPIRY, EXPIRY, EXPIRY - 1, false),
-        (0, 0, 0, false),
-        (1, 0, 0, true),
-        (last, last, last, false),
-        (u64::MAX, last, last, true),
-    ] {
+    for (expiry, latest, clock, clears) in around_expiry(EXPIRY) {
         let mut host = host();
         host.set_slot(SPENT, Slot { expiry, ..spent() });
         sample::set_latest(&mut host.store, latest);

@@ -5,7 +5,7 @@ use Prim.Native.Nat.{_≤_}
 use lib.ListN.{length}
 use Rattle.token_store.specs.Layout.{storeSize, latestTime}
 use Rattle.protocol.specs.declared.Request.{Request}
-use Rattle.protocol.specs.Granting.{refusedPlan, planFor}
+use Rattle.protocol.specs.Granting.{refusedPlan, revocationPlan, planFor}
 use Rattle.protocol.proofs.Reasons.{stop}
 use Rattle.granting.specs.Granted.{randomNeeded}
 use Rattle.granting.proofs.Plans.{refuses}
@@ -52,6 +52,11 @@ returns-5 : tie.Need-returns-5
 unfolding planFor
 returns-5 c = let done = c .before .before in rw (done .before .before .before .request5 .given .1) (done .grant-credentials .ensures)
 
+-- a revocation looks at no random bytes: its plan is the same for any
+returns-6 : tie.Need-returns-6
+unfolding planFor revocationPlan
+returns-6 c = let done = c .before .before in rw (done .before .before .before .request6 .given .1) (done .revoke .ensures)
+
 pub grant-spec : {M : Type 1} → statement M
 grant-spec =
     tie.close
@@ -66,6 +71,8 @@ grant-spec =
     grant-refresh-requires
     (λ c. search needs)
     grant-credentials-requires
+    (λ c. search needs)
+    (λ c κs. search needs)
     returns
     (λ c. search needs)
     returns-2
@@ -74,4 +81,6 @@ grant-spec =
     (λ c. search needs)
     returns-4
     (λ c. search needs)
-    returns-5)
+    returns-5
+    (λ c. search needs)
+    returns-6)

@@ -23,7 +23,7 @@ returns c =
     let a = entry (asked .before .before) .args in
     token-served (a .header .now) (a .body .now) (clientsOf (a .registry .now)) (a .t) (a .random .now) (decode (a .store .now))
     (asked .read .result) (asked .read .ensures) (made .grant .result) _ (made .grant .ensures)
-    (a .output .now) _ (wrote .write-reply .result) (wrote .write-reply .ensures) (c .challenge .result) (c .challenge .ensures)
+    (a .output .now) _ (wrote .write-reply .result) (wrote .write-reply .ensures) (c .answer .result) (c .answer .ensures)
 
 pub serve-spec : {M : Type 1} → statement M
 serve-spec =

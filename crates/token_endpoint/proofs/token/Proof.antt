@@ -52,9 +52,11 @@ serve-requires c κs =
 
 returns : tie.Need-returns
 returns c =
-    let at = c .before .before .before .before .before in
+    let told = c .before .before in
+    let at = told .before .before .before .before in
     let s = start at in
-    outcome-refused (endpoint s) (s .args .registry .now) (s .args .store .now) (handed s) _ (begun at) (came at _ (c .before .refusal .given .1))
+    rw (c .unfit .ensures)
+    (outcome-refused (endpoint s) (s .args .registry .now) (s .args .store .now) (handed s) _ (begun at) (came at _ (told .refusal .given .1)))
 
 returns-2 : tie.Need-returns-2
 returns-2 c =
@@ -73,6 +75,7 @@ token-spec =
     (λ c κs. search needs)
     (λ c κs. search needs)
     (λ c. search needs)
+    (λ c κs. search needs)
     (λ c. search needs)
     serve-requires
     (λ c. search needs)

@@ -19,7 +19,8 @@ returns-2 c =
     let scope = c .before in
     let e = scope .before .before in
     let there = sym (e .before .is-missing .ensures) ∙ e .if1 .left in
-    token-there (start (e .before) .pre .1) _ there _ (scope .before .handle-presented .ensures) _ (scope .scope-asked .ensures) _ (c .no-challenge .ensures)
+    c .presenting .ensures
+    ∙ token-there (start (e .before) .pre .1) _ there _ (scope .before .handle-presented .ensures) _ (scope .scope-asked .ensures)
 
 pub read-refresh-spec : {M : Type 1} → statement M
 read-refresh-spec =

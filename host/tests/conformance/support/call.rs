@@ -10,6 +10,7 @@ use poplarchime_host::plain::base64;
 pub enum Request {
     Authorize { query: Vec<u8>, decision: u64, farm: u32 },
     Token { header: Vec<u8>, body: Vec<u8> },
+    Revoke { header: Vec<u8>, body: Vec<u8> },
     Check { token: Vec<u8> },
 }
 
@@ -33,6 +34,7 @@ pub struct Call {
 pub enum Answer {
     Authorize(Authorization),
     Token(TokenReply),
+    Revoke(TokenReply),
     Check(CheckAnswer),
 }
 
@@ -40,7 +42,7 @@ impl Answer {
     pub fn refusal(&self) -> u32 {
         match self {
             Answer::Authorize(answer) => answer.refusal,
-            Answer::Token(answer) => answer.refusal,
+            Answer::Token(answer) | Answer::Revoke(answer) => answer.refusal,
             Answer::Check(answer) => answer.refusal,
         }
     }
@@ -49,17 +51,17 @@ impl Answer {
     pub fn length(&self) -> usize {
         match self {
             Answer::Authorize(answer) => answer.length,
-            Answer::Token(answer) => answer.length,
+            Answer::Token(answer) | Answer::Revoke(answer) => answer.length,
             Answer::Check(_) => 0,
         }
     }
 
-    /// Whether the call may have changed slots: it issued a code or tokens.
+    /// Whether the call issued a code or tokens.
     pub fn issued(&self) -> bool {
         match self {
             Answer::Authorize(answer) => answer.refusal == 0 && answer.error == 0,
             Answer::Token(answer) => answer.status == 200,
-            Answer::Check(_) => false,
+            Answer::Revoke(_) | Answer::Check(_) => false,
         }
     }
 
@@ -74,23 +76,13 @@ impl Answer {
             Answer::Token(TokenReply { refusal: 0, status: 200, error: 0, challenge: 0, length }) if length > 0 => {
                 "200".into()
             }
-            Answer::Token(TokenReply { refusal: 0, status: 400, error, challenge: 0, length }) if length > 0 => {
-                format!("400 {}", word(error))
-            }
-            Answer::Token(TokenReply { refusal: 0, status: 401, error: 2, challenge: 0, length }) if length > 0 => {
-                "401 invalid_client".into()
-            }
-            Answer::Token(TokenReply { refusal: 0, status: 401, error: 2, challenge: 1, length }) if length > 0 => {
-                "401 invalid_client, challenge".into()
-            }
+            Answer::Revoke(TokenReply { refusal: 0, status: 200, error: 0, challenge: 0, length: 0 }) => "200".into(),
             Answer::Token(TokenReply { refusal: 0, status, error: 0, challenge: 0, length: 0 })
                 if status == 500 || status == 503 =>
             {
                 status.to_string()
             }
-            Answer::Token(TokenReply { refusal: refusal @ 1..=4, status: 0, error: 0, challenge: 0, length: 0 }) => {
-                format!("refusal {refusal}")
-            }
+            Answer::Token(reply) | Answer::Revoke(reply) => refused_reply(&reply),
             Answer::Check(CheckAnswer { refusal: 0, live: 1, seconds_left: 1.., .. }) => "live".into(),
             Answer::Check(answer) if answer == CheckAnswer::default() => "not live".into(),
             Answer::Check(CheckAnswer { refusal, .. })
@@ -101,6 +93,25 @@ impl Answer {
             }
             other => panic!("not an answer of the papers: {other:?}"),
         }
+    }
+}
+
+/// The outcome of a reply with an error word, or of a refusal, at both endpoints that authenticate a client.
+fn refused_reply(reply: &TokenReply) -> String {
+    match *reply {
+        TokenReply { refusal: 0, status: 400, error, challenge: 0, length } if length > 0 && error != 2 => {
+            format!("400 {}", word(error))
+        }
+        TokenReply { refusal: 0, status: 401, error: 2, challenge: 0, length } if length > 0 => {
+            "401 invalid_client".into()
+        }
+        TokenReply { refusal: 0, status: 401, error: 2, challenge: 1, length } if length > 0 => {
+            "401 invalid_client, challenge".into()
+        }
+        TokenReply { refusal: refusal @ 1..=4, status: 0, error: 0, challenge: 0, length: 0 } => {
+            format!("refusal {refusal}")
+        }
+        other => panic!("not an answer of the papers: {other:?}"),
     }
 }
 
@@ -116,11 +127,8 @@ impl fmt::Display for Call {
                 writeln!(f, "authorize, decision {decision}, farm {farm}")?;
                 writeln!(f, "  query    {}", query.escape_ascii())?;
             }
-            Request::Token { header, body } => {
-                writeln!(f, "token")?;
-                writeln!(f, "  header   {}", header.escape_ascii())?;
-                writeln!(f, "  body     {}", body.escape_ascii())?;
-            }
+            Request::Token { header, body } => write_form(f, "token", header, body)?,
+            Request::Revoke { header, body } => write_form(f, "revoke", header, body)?,
             Request::Check { token } => writeln!(f, "check\n  token    {}", token.escape_ascii())?,
         }
         writeln!(f, "  clock    {}", self.clock)?;
@@ -128,6 +136,12 @@ impl fmt::Display for Call {
         writeln!(f, "  output   {} bytes", self.output)?;
         write!(f, "  registry {} bytes: {}", self.registry.len(), without_zeros(&self.registry))
     }
+}
+
+fn write_form(f: &mut fmt::Formatter<'_>, endpoint: &str, header: &[u8], body: &[u8]) -> fmt::Result {
+    writeln!(f, "{endpoint}")?;
+    writeln!(f, "  header   {}", header.escape_ascii())?;
+    writeln!(f, "  body     {}", body.escape_ascii())
 }
 
 /// Runs of zeros are left out, so that a registry can be read.

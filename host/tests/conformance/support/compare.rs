@@ -4,6 +4,7 @@ use poplarchime_host::program::{Program, EXPORTS, PLAIN};
 use poplarchime_host::sample::{self, Slot};
 
 use super::call::{Answer, Call, Request};
+use super::revocation::{revoked_slot, without_revoked};
 use super::second_showing::{second_showing, without_tokens};
 
 /// What a call answered, wrote and left.
@@ -74,6 +75,7 @@ pub fn run(program: &Program, call: &Call, before: &[u8]) -> After {
         Request::Token { header, body } => {
             Answer::Token((program.token)(header, body, registry, on, clock, random, out))
         }
+        Request::Revoke { header, body } => Answer::Revoke((program.revoke)(header, body, registry, on, clock, out)),
         Request::Check { token } => Answer::Check((program.check)(token, registry, on, clock)),
     };
     let (output, store) = (output.take(), store.take());
@@ -113,7 +115,8 @@ pub fn run_both(call: &Call, store: &[u8]) -> After {
 }
 
 /// Refusals 1 to 4 change nothing at all, later ones nothing but the high-water mark; only a second showing of a code
-/// clears the tokens that came from it, too. The output beyond the answer stays.
+/// clears the tokens that came from it, too. A revocation clears what it revokes and changes nothing else. The output
+/// beyond the answer stays.
 pub fn keeps_demand_1(call: &Call, before: &[u8], after: &After) {
     let untouched = &after.output[after.answer.length()..];
     assert!(untouched.iter().all(|&byte| byte == FILL), "output beyond the answer was touched\n{call}");
@@ -126,6 +129,9 @@ pub fn keeps_demand_1(call: &Call, before: &[u8], after: &After) {
     if let Some(code) = second_showing(call, before) {
         assert_eq!(after.answer.outcome(), "400 invalid_grant", "a code was shown a second time\n{call}");
         assert!(after.store[8..] == without_tokens(before, &code)[8..], "not just its tokens were cleared\n{call}");
+    } else if let Some(revoked) = revoked_slot(call, before) {
+        assert_eq!(after.answer.outcome(), "200", "a token was revoked\n{call}");
+        assert!(after.store[8..] == without_revoked(before, revoked)[8..], "not just it was revoked\n{call}");
     } else if !after.answer.issued() {
         assert!(after.store[8..] == before[8..], "a refused or idle call changed a slot\n{call}");
     }

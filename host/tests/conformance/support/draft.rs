@@ -16,16 +16,28 @@ pub enum Action {
     Exchange,
     Refresh,
     ClientCredentials,
+    Revoke,
     Check,
 }
 
 impl Action {
-    pub const ALL: [Action; 5] =
-        [Action::Authorize, Action::Exchange, Action::Refresh, Action::ClientCredentials, Action::Check];
+    pub const ALL: [Action; 6] = [
+        Action::Authorize,
+        Action::Exchange,
+        Action::Refresh,
+        Action::ClientCredentials,
+        Action::Revoke,
+        Action::Check,
+    ];
+    /// The actions that have an output to write to.
+    pub const WRITING: [Action; 5] =
+        [Action::Authorize, Action::Exchange, Action::Refresh, Action::ClientCredentials, Action::Revoke];
     /// The actions that issue a code or tokens.
     pub const ISSUING: [Action; 4] = [Action::Authorize, Action::Exchange, Action::Refresh, Action::ClientCredentials];
     /// The grants of the token endpoint.
     pub const GRANTS: [Action; 3] = [Action::Exchange, Action::Refresh, Action::ClientCredentials];
+    /// The actions for which a client is authenticated: the grants, and a revocation.
+    pub const BY_CLIENTS: [Action; 4] = [Action::Exchange, Action::Refresh, Action::ClientCredentials, Action::Revoke];
 
     pub fn name(self) -> &'static str {
         match self {
@@ -33,13 +45,14 @@ impl Action {
             Action::Exchange => "exchange",
             Action::Refresh => "refresh",
             Action::ClientCredentials => "client credentials",
+            Action::Revoke => "revoke",
             Action::Check => "check",
         }
     }
 
     /// Whether a request of this kind shows a code or token from the store.
     pub fn presents(self) -> bool {
-        matches!(self, Action::Exchange | Action::Refresh | Action::Check)
+        matches!(self, Action::Exchange | Action::Refresh | Action::Revoke | Action::Check)
     }
 
     /// The outcome of a request with which nothing is wrong.
@@ -47,6 +60,7 @@ impl Action {
         match self {
             Action::Authorize => "code",
             Action::Exchange | Action::Refresh | Action::ClientCredentials => "200",
+            Action::Revoke => "200, tokens cleared",
             Action::Check => "live",
         }
     }
@@ -69,22 +83,19 @@ impl Action {
             Action::Exchange => &["400 invalid_grant", "400 invalid_grant, tokens cleared"],
             Action::Refresh => &["400 invalid_grant", "400 invalid_scope"],
             Action::ClientCredentials => &["400 unauthorized_client", "400 invalid_scope"],
+            Action::Revoke => &["200", "400 invalid_grant"],
             Action::Check => &["not live"],
         };
+        let by_clients: &[&str] = match Action::BY_CLIENTS.contains(&self) {
+            true => &["refusal 1", "400 invalid_request", "401 invalid_client", "401 invalid_client, challenge"],
+            false => &[],
+        };
         let of_grants: &[&str] = match Action::GRANTS.contains(&self) {
-            true => &[
-                "refusal 1",
-                "400 invalid_request",
-                "401 invalid_client",
-                "401 invalid_client, challenge",
-                "400 unsupported_grant_type",
-                "503",
-                "500",
-            ],
+            true => &["400 unsupported_grant_type", "503", "500"],
             false => &[],
         };
         let of_all = ["refusal 2", "refusal 3", "refusal 4", self.granted()];
-        let endings = of_all.iter().chain(of_grants).chain(own);
+        let endings = of_all.iter().chain(by_clients).chain(of_grants).chain(own);
         endings.map(|ending| format!("{}: {ending}", self.name())).collect()
     }
 }
@@ -272,6 +283,16 @@ impl Draft {
         draft
     }
 
+    /// The revocation of the token in a slot, by the client it belongs to.
+    pub fn revoke(clients: &Arc<[Client]>, store: &[u8], clock: u64, slot: usize) -> Draft {
+        let mut draft = Draft::new(Action::Revoke, clients, store, clock);
+        let held = sample::slot(store, slot);
+        draft.presented = slot;
+        draft.params.push("token", held.handle_text());
+        draft.authenticate(held.client.into());
+        draft
+    }
+
     /// The check of the access token in a slot.
     pub fn check(clients: &Arc<[Client]>, store: &[u8], clock: u64, slot: usize) -> Draft {
         let mut draft = Draft::new(Action::Check, clients, store, clock);
@@ -377,6 +398,8 @@ impl Draft {
                 "code_challenge=",
                 "code_challenge_method",
                 "code_verifier=",
+                "token=",
+                "token_type_hint",
                 "=",
                 "=x",
                 "x",
@@ -402,6 +425,7 @@ impl Draft {
         let request = match self.action {
             Action::Authorize => Request::Authorize { query: form, decision: self.decision, farm: self.farm },
             Action::Exchange | Action::Refresh | Action::ClientCredentials => Request::Token { header, body: form },
+            Action::Revoke => Request::Revoke { header, body: form },
             Action::Check => Request::Check { token: self.token.clone() },
         };
         Call {

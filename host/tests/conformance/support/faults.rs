@@ -8,6 +8,7 @@ mod check;
 mod form;
 mod grant;
 mod presented;
+mod revocation;
 mod room;
 mod scope;
 mod texts;
@@ -37,9 +38,10 @@ pub enum Step {
     Decision,
     Room,
     Clash,
-    // Token.
+    // Token and revocation.
     Body,
     Authentication,
+    // Token.
     GrantType,
     GrantNotForClient,
     Presented,
@@ -50,6 +52,9 @@ pub enum Step {
     TokenScope,
     TokenRoom,
     TokenClash,
+    // Revocation.
+    NothingToRevoke,
+    AnotherClients,
     // Check.
     Token,
     /// Nothing is wrong, though it may look odd.
@@ -78,11 +83,12 @@ impl Step {
             Step::Authentication => "401 invalid_client",
             Step::GrantType => "400 unsupported_grant_type",
             Step::GrantNotForClient => "400 unauthorized_client",
-            Step::Grant | Step::CodeRedirect | Step::Verifier => "400 invalid_grant",
+            Step::Grant | Step::CodeRedirect | Step::Verifier | Step::AnotherClients => "400 invalid_grant",
             Step::SecondShowing => "400 invalid_grant, tokens cleared",
             Step::TokenScope => "400 invalid_scope",
             Step::TokenRoom => "503",
             Step::TokenClash => "500",
+            Step::NothingToRevoke => "200",
             Step::Token => "not live",
             Step::Harmless => draft.action.granted(),
         }
@@ -109,10 +115,13 @@ impl Fault {
 /// Every reason for refusing such a request, and ways of being odd that are no reason.
 pub fn faults(action: Action) -> Vec<Fault> {
     let lists: &[&[Reasons]] = match action {
-        Action::Authorize => &[ANY, ISSUING, SINGLE, AUTHORIZE],
-        Action::Exchange => &[ANY, ISSUING, GRANT, PRESENTED_GRANT, EXCHANGE],
-        Action::Refresh => &[ANY, ISSUING, SINGLE, GRANT, PRESENTED_GRANT, SINGLE_TOKEN, REFRESH],
-        Action::ClientCredentials => &[ANY, ISSUING, SINGLE, GRANT, SINGLE_TOKEN, CLIENT_CREDENTIALS],
+        Action::Authorize => &[ANY, WRITING, ISSUING, SINGLE, AUTHORIZE],
+        Action::Exchange => &[ANY, WRITING, ISSUING, CLIENT_FORM, GRANT, PRESENTED_GRANT, EXCHANGE],
+        Action::Refresh => &[ANY, WRITING, ISSUING, SINGLE, CLIENT_FORM, GRANT, PRESENTED_GRANT, SINGLE_TOKEN, REFRESH],
+        Action::ClientCredentials => {
+            &[ANY, WRITING, ISSUING, SINGLE, CLIENT_FORM, GRANT, SINGLE_TOKEN, CLIENT_CREDENTIALS]
+        }
+        Action::Revoke => &[ANY, WRITING, CLIENT_FORM, REVOKE],
         Action::Check => &[ANY, CHECK],
     };
     let mut faults = Vec::new();
@@ -129,12 +138,11 @@ const ANY: &[Reasons] = &[
     (Step::Harmless, buffers::HARMLESS_CLOCK),
 ];
 
-const ISSUING: &[Reasons] = &[
-    (Step::Buffers, buffers::BUFFERS),
-    (Step::Harmless, form::HARMLESS_FORM),
-    (Step::Harmless, room::TWO_LEFT),
-    (Step::Harmless, room::HARMLESS_CLASH),
-];
+/// Where there is an output; the request is a form then.
+const WRITING: &[Reasons] = &[(Step::Buffers, buffers::OUTPUT), (Step::Harmless, form::HARMLESS_FORM)];
+
+const ISSUING: &[Reasons] =
+    &[(Step::Buffers, buffers::RANDOM), (Step::Harmless, room::TWO_LEFT), (Step::Harmless, room::HARMLESS_CLASH)];
 
 /// Where a single slot is taken.
 const SINGLE: &[Reasons] = &[(Step::Harmless, room::ONE_LEFT)];
@@ -155,15 +163,20 @@ const AUTHORIZE: &[Reasons] = &[
     (Step::Harmless, challenge::HARMLESS_CHALLENGE),
 ];
 
-/// Of every grant of the token endpoint.
-const GRANT: &[Reasons] = &[
+/// Of every form by which a client is authenticated.
+const CLIENT_FORM: &[Reasons] = &[
     (Step::Body, form::FORM),
     (Step::Body, authentication::BODY),
     (Step::Authentication, authentication::AUTHENTICATION),
+    (Step::Harmless, authentication::HARMLESS_CREDENTIALS),
+];
+
+/// Of every grant of the token endpoint.
+const GRANT: &[Reasons] = &[
+    (Step::Body, grant::NAMES),
     (Step::GrantType, grant::GRANT_TYPE),
     (Step::TokenRoom, room::ROOM),
     (Step::TokenClash, room::CLASH),
-    (Step::Harmless, authentication::HARMLESS_TOKEN),
     (Step::Harmless, verifier::HARMLESS_CHALLENGE),
 ];
 
@@ -171,6 +184,8 @@ const GRANT: &[Reasons] = &[
 const PRESENTED_GRANT: &[Reasons] = &[
     (Step::Presented, grant::PRESENTED),
     (Step::Grant, grant::GRANT),
+    (Step::Grant, presented::UNKNOWN),
+    (Step::Grant, presented::ANOTHER_CLIENTS),
     (Step::TokenClash, room::PRESENTED_CLASH),
     (Step::Harmless, presented::HARMLESS_PRESENTED),
 ];
@@ -201,6 +216,16 @@ const CLIENT_CREDENTIALS: &[Reasons] = &[
     (Step::GrantNotForClient, grant::PUBLIC_CLIENT),
     (Step::Harmless, grant::HARMLESS_CLIENT_CREDENTIALS),
     (Step::Harmless, verifier::IGNORED_VERIFIER),
+];
+
+const REVOKE: &[Reasons] = &[
+    (Step::Body, revocation::NAMES),
+    (Step::NothingToRevoke, presented::UNKNOWN),
+    (Step::NothingToRevoke, revocation::NOTHING),
+    (Step::AnotherClients, presented::ANOTHER_CLIENTS),
+    (Step::AnotherClients, revocation::ANOTHER_CLIENTS),
+    (Step::Harmless, presented::HARMLESS_PRESENTED),
+    (Step::Harmless, revocation::HARMLESS),
 ];
 
 const CHECK: &[Reasons] = &[

@@ -26,6 +26,24 @@ pub fn counting(first: u8) -> [u8; 20] {
     std::array::from_fn(|at| first + at as u8)
 }
 
+/// Times on both sides of a slot's end: its expiry, the time in the store, the clock, and whether the slot is live then.
+/// Around this expiry the clock or the store decides; at the ends of what a store may hold both do.
+pub fn around_expiry(expiry: u64) -> [(u64, u64, u64, bool); 10] {
+    let last = 1 << 40;
+    [
+        (expiry, 0, expiry - 1, true),
+        (expiry, 0, expiry, false),
+        (expiry, 0, expiry + 1, false),
+        (expiry, expiry - 1, 0, true),
+        (expiry, expiry, 0, false),
+        (expiry, expiry, expiry - 1, false),
+        (0, 0, 0, false),
+        (1, 0, 0, true),
+        (last, last, last, false),
+        (u64::MAX, last, last, true),
+    ]
+}
+
 /// The answer of the authorization endpoint.
 #[derive(Debug, PartialEq, Eq)]
 pub enum Authorized {
@@ -33,7 +51,7 @@ pub enum Authorized {
     Redirected(String),
 }
 
-/// The answer of the token endpoint: status, whether it carries a challenge, and body.
+/// The answer of the token endpoint or the revocation endpoint: status, whether it carries a challenge, and body.
 #[derive(Debug, PartialEq, Eq)]
 pub struct Reply {
     pub status: u32,
@@ -63,6 +81,15 @@ impl Host {
         for number in numbers {
             self.set_slot(number, slot);
         }
+    }
+
+    /// The slots that have changed since. All of them must be free now.
+    #[track_caller]
+    pub fn cleared_since(&self, before: &Host) -> Vec<usize> {
+        let changed = (0..sample::SLOTS).filter(|&number| self.slot(number) != before.slot(number));
+        let changed: Vec<usize> = changed.collect();
+        assert!(changed.iter().all(|&number| self.slot(number) == Slot::default()), "changed and not cleared");
+        changed
     }
 
     fn run(&mut self, request: Request, clock: u64, random: &[u8]) -> After {
@@ -119,14 +146,13 @@ impl Host {
     ) -> Reply {
         let request = Request::Token { header: header.as_ref().to_vec(), body: body.as_ref().to_vec() };
         let after = self.run(request, clock, &random.concat());
-        let Answer::Token(answer) = after.answer else { unreachable!() };
-        assert_eq!(answer.refusal, 0);
-        let word = ErrorWord::ALL.iter().find(|word| word.number() == answer.error);
-        let body = after.text();
-        if let Some(word) = word {
-            assert_eq!(body, format!("{{\"error\":\"{}\"}}", word.text()), "number and word of an error differ");
-        }
-        Reply { status: answer.status, challenge: answer.challenge == 1, body }
+        reply(&after)
+    }
+
+    /// No random bytes are handed along.
+    pub fn revoke(&mut self, header: impl AsRef<[u8]>, body: impl AsRef<[u8]>, clock: u64) -> Reply {
+        let request = Request::Revoke { header: header.as_ref().to_vec(), body: body.as_ref().to_vec() };
+        reply(&self.run(request, clock, &[]))
     }
 
     pub fn check(&mut self, token: impl AsRef<[u8]>, clock: u64) -> CheckAnswer {
@@ -134,6 +160,18 @@ impl Host {
         let Answer::Check(answer) = after.answer else { unreachable!() };
         answer
     }
+}
+
+/// What the token endpoint or the revocation endpoint has answered.
+fn reply(after: &After) -> Reply {
+    let (Answer::Token(answer) | Answer::Revoke(answer)) = after.answer else { unreachable!() };
+    assert_eq!(answer.refusal, 0);
+    let word = ErrorWord::ALL.iter().find(|word| word.number() == answer.error);
+    let body = after.text();
+    if let Some(word) = word {
+        assert_eq!(body, format!("{{\"error\":\"{}\"}}", word.text()), "number and word of an error differ");
+    }
+    Reply { status: answer.status, challenge: answer.challenge == 1, body }
 }
 
 pub fn exchange_body(code: &[u8; 20]) -> String {
@@ -144,12 +182,21 @@ pub fn refresh_body(token: &[u8; 20]) -> String {
     format!("grant_type=refresh_token&refresh_token={}", sample::hex(token))
 }
 
+pub fn revocation_body(token: &[u8; 20]) -> String {
+    format!("token={}", sample::hex(token))
+}
+
 pub fn redirected(location: &str) -> Authorized {
     Authorized::Redirected(location.into())
 }
 
 pub fn granted(body: &str) -> Reply {
     Reply { status: 200, challenge: false, body: body.into() }
+}
+
+/// The answer to a revocation that is not refused.
+pub fn revoked() -> Reply {
+    granted("")
 }
 
 pub fn bad_request(word: &str) -> Reply {

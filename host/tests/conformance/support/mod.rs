@@ -7,6 +7,7 @@ pub mod draft;
 pub mod faults;
 pub mod host;
 pub mod pkce;
+pub mod revocation;
 pub mod rng;
 pub mod second_showing;
 pub mod tally;

@@ -16,6 +16,26 @@ use super::tally::Tally;
 
 const CLOCK_LIMIT: u64 = 1 << 40;
 
+/// What is drawn. Exchanges have the most that can be wrong; revocations empty the store, so there are few of them.
+const DRAWN: [Action; 13] = {
+    use Action::*;
+    [
+        Authorize,
+        Authorize,
+        Exchange,
+        Exchange,
+        Exchange,
+        Exchange,
+        Refresh,
+        Refresh,
+        ClientCredentials,
+        ClientCredentials,
+        Revoke,
+        Check,
+        Check,
+    ]
+};
+
 // What damage is done to a call.
 const DAMAGED: &str = "damaged bytes";
 const DAMAGED_CREDENTIALS: &str = "damaged credentials";
@@ -52,7 +72,7 @@ pub struct World {
     faults: [Vec<Fault>; Action::ALL.len()],
     /// Some of the calls that changed slots, to be made again.
     effective: Vec<(Action, Call)>,
-    /// Some of the tokens that second showings have cleared, to be presented.
+    /// Some of the tokens that second showings and revocations have cleared, to be presented.
     withdrawn: Vec<Slot>,
 }
 
@@ -168,14 +188,7 @@ impl World {
         if !self.effective.is_empty() && rng.chance(4) {
             return self.draw_again(rng, reasons);
         }
-        let action = rng.pick(&[
-            Action::Authorize,
-            Action::Exchange,
-            Action::Exchange,
-            Action::Refresh,
-            Action::ClientCredentials,
-            Action::Check,
-        ]);
+        let action = rng.pick(&DRAWN);
         let mut draft = self.sound_draft(action, rng);
         let sound = self.spoil(&mut draft, rng, reasons);
         let mut damage_done = if rng.chance(4) { damage_proof(&mut draft, rng) } else { None };
@@ -218,10 +231,10 @@ impl World {
             reasons.extend(faults(action).iter().map(|fault| format!("{}: {}", action.name(), fault.reason)));
             reasons.push(format!("{}: {DAMAGED}", action.name()));
         }
-        for action in Action::GRANTS {
+        for action in Action::BY_CLIENTS {
             reasons.extend([DAMAGED_CREDENTIALS, UNCODED].map(|what| format!("{}: {what}", action.name())));
         }
-        for action in Action::ISSUING {
+        for action in Action::WRITING {
             reasons.push(format!("{}: made again", action.name()));
         }
         reasons.extend([DAMAGED_CHALLENGE, DAMAGED_METHOD].map(|what| format!("{}: {what}", Action::Authorize.name())));
@@ -237,8 +250,11 @@ impl World {
         let random = [self.random_for_issue(rng), self.random_for_issue(rng)].concat();
         match action {
             Action::Authorize => self.sound_authorization(clock, &random[..20], rng),
-            Action::Exchange | Action::Refresh => {
-                let mut draft = Draft::token(action, &self.clients, &self.store, clock, slot, random);
+            Action::Exchange | Action::Refresh | Action::Revoke => {
+                let mut draft = match action {
+                    Action::Revoke => Draft::revoke(&self.clients, &self.store, clock, slot),
+                    _ => Draft::token(action, &self.clients, &self.store, clock, slot, random),
+                };
                 self.present_withdrawn(&mut draft, rng);
                 if rng.chance(5) {
                     draft.authenticate(rng.below(self.clients.len()));
@@ -282,12 +298,13 @@ impl World {
 
     /// Now and then, presents a token that is no longer in the store.
     fn present_withdrawn(&self, draft: &mut Draft, rng: &mut Rng) {
-        let kind = match draft.action {
-            Action::Check => sample::ACCESS,
-            Action::Refresh => sample::REFRESH,
+        let kinds: &[u8] = match draft.action {
+            Action::Check => &[sample::ACCESS],
+            Action::Refresh => &[sample::REFRESH],
+            Action::Revoke => &sample::TOKENS,
             _ => return,
         };
-        let tokens: Vec<Slot> = self.withdrawn.iter().filter(|token| token.kind == kind).copied().collect();
+        let tokens: Vec<Slot> = self.withdrawn.iter().filter(|token| kinds.contains(&token.kind)).copied().collect();
         if !tokens.is_empty() && rng.chance(10) {
             let token = rng.pick(&tokens);
             present(draft, token.handle_text());
@@ -313,6 +330,7 @@ impl World {
             Action::Exchange if rng.chance(25) => &[sample::SPENT],
             Action::Exchange => &sample::UNSPENT,
             Action::Refresh => &[sample::REFRESH],
+            Action::Revoke => &sample::TOKENS,
             Action::Check => &[sample::ACCESS],
         };
         let latest = sample::latest(&self.store);
@@ -410,7 +428,7 @@ fn damage_proof(draft: &mut Draft, rng: &mut Rng) -> Option<&'static str> {
 
 /// Damages what the outside sent: the credentials in a header before base64, or any bytes. Says which.
 fn damage(request: &mut Request, rng: &mut Rng) -> &'static str {
-    if let Request::Token { header, .. } = request {
+    if let Request::Token { header, .. } | Request::Revoke { header, .. } = request {
         if let Some(credentials) = credentials_in(header).filter(|_| rng.chance(40)) {
             let (credentials, what) = damage_credentials(credentials, rng);
             *header = sample::basic_header_of(&credentials);
@@ -419,7 +437,7 @@ fn damage(request: &mut Request, rng: &mut Rng) -> &'static str {
     }
     let bytes = match request {
         Request::Authorize { query, .. } => query,
-        Request::Token { header, body } => match rng.chance(50) {
+        Request::Token { header, body } | Request::Revoke { header, body } => match rng.chance(50) {
             true => header,
             false => body,
         },

@@ -1,4 +1,4 @@
--- Up to slot i every token of that origin is freed, and nothing else is changed.
+-- Up to slot i every token sought of that origin is freed, and nothing else is changed.
 use borrow.Author.Needs.{needs}
 use Prim.Native.Nat.{ℕ, _-_, _≤_}
 use mathlib.Core.Path.{_≡_, sym, ap, _∙_}
@@ -11,24 +11,26 @@ use Rattle.octets.proofs.Searches.{replacedTo, replaced-none, replaced-at, repl
 use Rattle.token_store.specs.Layout.{storeSize, slotCount}
 use Rattle.token_store.specs.Store.{Store, decode, slotOf, freeSlot, withSlot, withSlots, comesFrom}
 use Rattle.token_store.specs.declared.Slot.{Slot}
+use Rattle.token_store.specs.declared.Sought.{Sought}
 use Rattle.token_store.proofs.Codec.{length-slots}
 use Rattle.token_store.proofs.write.clear_tokens.Statement.{statement}
 use Rattle.token_store.proofs.write.clear_tokens.Tie as tie
 
 -- the store with those freed up to slot i
-abbrev clearedTo : List ℕ → List ℕ → ℕ → Store
-clearedTo b handle i = withSlots (decode b) (replacedTo freeSlot (comesFrom handle) i (decode b .slots))
+abbrev clearedTo : List ℕ → Sought → List ℕ → ℕ → Store
+clearedTo b sought handle i = withSlots (decode b) (replacedTo freeSlot (comesFrom sought handle) i (decode b .slots))
 
 abbrev Inv-loop : tie.InvT-loop
-Inv-loop store₀ handle i₀ store i = (i ≤ slotCount) × (length store ≡ storeSize) × (decode store ≡ clearedTo store₀ handle i)
+Inv-loop store₀ sought handle i₀ store i =
+    (i ≤ slotCount) × (length store ≡ storeSize) × (decode store ≡ clearedTo store₀ sought handle i)
 
 abbrev μ-loop : tie.MeasureT-loop
-μ-loop store₀ handle i₀ store i = slotCount - i
+μ-loop store₀ sought handle i₀ store i = slotCount - i
 
 loop-holds : tie.Need-loop-holds Inv-loop μ-loop
 loop-holds c =
     let a = c .before .before .args in
-    (search needs, c .before .before .pre, ap (withSlots (decode (a .store .now))) (replaced-none freeSlot (comesFrom (a .handle .now)) (decode (a .store .now) .slots)))
+    (search needs, c .before .before .pre, ap (withSlots (decode (a .store .now))) (replaced-none freeSlot (comesFrom (a .sought) (a .handle .now)) (decode (a .store .now) .slots)))
 
 abbrev turn : tie.After-comes-from Inv-loop μ-loop → tie.At-loop Inv-loop μ-loop
 turn c = c .before .before .before
@@ -39,15 +41,15 @@ begun l = l .before .before .before
 -- the test of the turn's slot is that of the slot as it was
 tested : (c : tie.After-comes-from Inv-loop μ-loop)
     → let a = begun (turn c) .args in
-    comesFrom (a .handle .now) (getD (decode (a .store .now) .slots) (turn c .loop .i) freeSlot) ≡ c .comes-from .result
+    comesFrom (a .sought) (a .handle .now) (getD (decode (a .store .now) .slots) (turn c .loop .i) freeSlot) ≡ c .comes-from .result
 tested c =
     let l = turn c in
     let a = begun l .args in
     let slots = decode (a .store .now) .slots in
     let now : slotOf (decode (l .loop .store)) (l .loop .i) ≡ getD slots (l .loop .i) freeSlot =
-    ap (λ (g : Store). slotOf g (l .loop .i)) (l .loop .inv .2) ∙ replaced-at freeSlot (comesFrom (a .handle .now)) slots (l .loop .i)
+    ap (λ (g : Store). slotOf g (l .loop .i)) (l .loop .inv .2) ∙ replaced-at freeSlot (comesFrom (a .sought) (a .handle .now)) slots (l .loop .i)
     in
-    sym (c .comes-from .ensures ∙ ap (comesFrom (a .handle .now)) now)
+    sym (c .comes-from .ensures ∙ ap (comesFrom (a .sought) (a .handle .now)) now)
 
 loop-again : tie.Need-loop-again Inv-loop μ-loop
 loop-again c =
@@ -55,7 +57,7 @@ loop-again c =
     let l = turn told in
     let a = begun l .args in
     let i = l .loop .i in
-    let k = comesFrom (a .handle .now) in
+    let k = comesFrom (a .sought) (a .handle .now) in
     let slots = decode (a .store .now) .slots in
     let left : List Slot → Store = withSlots (decode (a .store .now)) in
     ⊎-elim
@@ -74,7 +76,7 @@ returns c =
     let slots = decode (a .store .now) .slots in
     l .loop .inv .2
     ∙ ap (withSlots (decode (a .store .now)))
-    (replaced-all freeSlot (comesFrom (a .handle .now)) slots (l .loop .i) (omega (arith, length-slots (a .store .now))))
+    (replaced-all freeSlot (comesFrom (a .sought) (a .handle .now)) slots (l .loop .i) (omega (arith, length-slots (a .store .now))))
 
 pub clear-tokens-spec : {M : Type 1} → statement M
 clear-tokens-spec =

@@ -1,33 +1,16 @@
-//! The token endpoint: reading the request and admitting the client.
+//! The token endpoint and the revocation endpoint: reading the request and admitting the client.
 
 use poplarchime_host::sample;
 
 use super::texts::{cut, inside, longer, other_end, repeat};
 use super::Apply;
 use crate::support::draft::{Draft, Header};
-use crate::support::pkce;
 use crate::support::rng::Rng;
 use crate::support::writing;
 
 pub const BODY: &[(&str, Apply)] = &[
-    ("grant_type twice", |d, _| repeat(d, "grant_type")),
-    ("code twice", |d, _| repeat(d, "code")),
-    ("redirect_uri twice", |d, _| repeat(d, "redirect_uri")),
     ("client_id twice", |d, _| repeat(d, "client_id")),
     ("client_secret twice", |d, _| repeat(d, "client_secret")),
-    ("refresh_token twice", |d, _| repeat(d, "refresh_token")),
-    ("scope twice", |d, _| repeat(d, "scope")),
-    ("two scopes", |d, _| {
-        d.params.set("scope", "power");
-        d.params.push("scope", "peak");
-    }),
-    ("code_verifier twice", |d, _| repeat(d, "code_verifier")),
-    ("two code_verifiers", |d, _| {
-        d.params.set("code_verifier", pkce::VERIFIER);
-        d.params.push("code_verifier", pkce::CHALLENGE);
-    }),
-    ("no grant_type", |d, _| d.params.remove("grant_type")),
-    ("empty grant_type", |d, _| d.params.set("grant_type", "")),
     ("header and client_secret", |d, _| {
         let secret = d.asking().secret.clone().unwrap_or(b"x".into());
         d.header = Header::basic(&d.asking().id, &secret);
@@ -257,7 +240,7 @@ fn rewrite(draft: &mut Draft, write: impl FnMut(&[u8], &[u8]) -> Vec<u8>) {
     }
 }
 
-pub const HARMLESS_TOKEN: &[(&str, Apply)] = &[
+pub const HARMLESS_CREDENTIALS: &[(&str, Apply)] = &[
     ("scheme in any case", |d, rng| {
         let mut header = d.header.in_any_writing(rng);
         for letter in header.iter_mut().take(5) {

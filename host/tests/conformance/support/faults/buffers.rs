@@ -11,9 +11,10 @@ const CLOCK_LIMIT: u64 = 1 << 40;
 
 // ---- refusal 1
 
-pub const BUFFERS: &[(&str, Apply)] = &[
-    ("output of 1,023 bytes", |d, _| d.output = 1023),
-    ("no output", |d, _| d.output = 0),
+pub const OUTPUT: &[(&str, Apply)] =
+    &[("output of 1,023 bytes", |d, _| d.output = 1023), ("no output", |d, _| d.output = 0)];
+
+pub const RANDOM: &[(&str, Apply)] = &[
     ("a random byte too few", |d, _| shorten(&mut d.random)),
     ("a random byte too many", |d, rng| d.random.push(rng.byte())),
     ("no random bytes", |d, _| d.random.clear()),

@@ -23,11 +23,12 @@ pub const HARMLESS_FORM: &[(&str, Apply)] = &[
     ("empty pieces", |d, _| d.raw_piece = b"&&&".into()),
     ("known names without a value", |d, _| {
         d.raw_piece = b"state=&state&scope=&scope&client_id=&client_secret&code=&redirect_uri&grant_type=\
-            &code_challenge=&code_challenge&code_challenge_method=&code_verifier=&code_verifier"
+            &code_challenge=&code_challenge&code_challenge_method=&code_verifier=&code_verifier\
+            &token=&token&token_type_hint=&token_type_hint"
             .into()
     }),
     ("known names in capitals", |d, _| {
-        d.raw_piece = b"STATE=1&Client_id=1&CODE=1&SCOPE=1&SCOPE=1&Code_verifier=1".into()
+        d.raw_piece = b"STATE=1&Client_id=1&CODE=1&SCOPE=1&SCOPE=1&Code_verifier=1&TOKEN=1&Token=1".into()
     }),
     ("known names with a space", |d, _| d.raw_piece = b"state+=1&+client_id=1&code%20=1".into()),
     ("empty names", |d, _| d.raw_piece = b"=1&=&=state".into()),

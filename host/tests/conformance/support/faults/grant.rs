@@ -2,14 +2,34 @@
 
 use poplarchime_host::sample::{self, Slot};
 
-use super::presented::{expire, give_away, hide, present, presented_name, run_out, show_first, spoiled};
+use super::presented::{expire, give_away, hide, present, presented_name, show_first, spoiled};
 use super::room::time;
-use super::texts::{cut, longer, one_less, other_end};
+use super::texts::{cut, longer, one_less, other_end, repeat};
 use super::verifier::challenge;
 use super::Apply;
 use crate::support::draft::{Action, Draft};
 use crate::support::pkce;
 use crate::support::rng::Rng;
+
+/// A name counts for repeats whether the grant uses it or not.
+pub const NAMES: &[(&str, Apply)] = &[
+    ("grant_type twice", |d, _| repeat(d, "grant_type")),
+    ("code twice", |d, _| repeat(d, "code")),
+    ("redirect_uri twice", |d, _| repeat(d, "redirect_uri")),
+    ("refresh_token twice", |d, _| repeat(d, "refresh_token")),
+    ("scope twice", |d, _| repeat(d, "scope")),
+    ("two scopes", |d, _| {
+        d.params.set("scope", "power");
+        d.params.push("scope", "peak");
+    }),
+    ("code_verifier twice", |d, _| repeat(d, "code_verifier")),
+    ("two code_verifiers", |d, _| {
+        d.params.set("code_verifier", pkce::VERIFIER);
+        d.params.push("code_verifier", pkce::CHALLENGE);
+    }),
+    ("no grant_type", |d, _| d.params.remove("grant_type")),
+    ("empty grant_type", |d, _| d.params.set("grant_type", "")),
+];
 
 pub const GRANT_TYPE: &[(&str, Apply)] = &[
     ("grant_type password", |d, _| spoil_grant_type(d, |_| b"password".into())),
@@ -56,40 +76,11 @@ pub const PRESENTED: &[(&str, Apply)] = &[
 ];
 
 pub const GRANT: &[(&str, Apply)] = &[
-    ("unknown handle", |d, rng| present(d, sample::hex(&rng.handle()))),
-    ("handle of another last digit", |d, _| present(d, other_end(d.presented_slot().handle_text().as_bytes()))),
-    ("handle of another first digit", |d, _| {
-        let mut handle = d.presented_slot().handle;
-        handle[0] ^= 0x80;
-        present(d, sample::hex(&handle));
-    }),
-    ("handle in capitals", |d, _| {
-        d.edit_slot(d.presented, |slot| slot.handle[7] |= 0xa0);
-        present(d, d.presented_slot().handle_text().to_uppercase());
-    }),
-    ("handle cut by a digit", |d, _| present(d, cut(d.presented_slot().handle_text().as_bytes()))),
-    ("handle cut by a byte", |d, _| present(d, cut(&cut(d.presented_slot().handle_text().as_bytes())))),
-    ("a digit behind the handle", |d, _| present(d, format!("{}0", d.presented_slot().handle_text()))),
-    ("two digits behind the handle", |d, _| present(d, format!("{}00", d.presented_slot().handle_text()))),
-    ("space behind the handle", |d, _| present(d, format!("{} ", d.presented_slot().handle_text()))),
-    ("handle as bytes", |d, _| present(d, d.presented_slot().handle)),
-    ("code of RFC 6749", |d, _| present(d, "SplxlOBeZQQYbYS6WxSbIA")),
-    ("run out this second", |d, _| run_out(d, 0)),
-    ("run out long ago", |d, _| run_out(d, 10_000)),
-    ("another client's", |d, rng| match d.clients.len() {
-        1 => present(d, "no other client"),
-        clients => {
-            let owner = usize::from(d.presented_slot().client);
-            d.authenticate((owner + rng.between(1, clients - 1)) % clients);
-        }
-    }),
     ("an access token", |d, _| d.edit_slot(d.presented, |slot| *slot = slot.turned(sample::ACCESS))),
     ("the other kind of handle", |d, rng| {
         let kind = if d.action == Action::Exchange { sample::REFRESH } else { rng.pick(&sample::CODES) };
         d.edit_slot(d.presented, |slot| *slot = slot.turned(kind));
     }),
-    ("a slot that has run out hides it", |d, rng| hide(d, rng, expire)),
-    ("another client's slot hides it", |d, rng| hide(d, rng, give_away)),
 ];
 
 /// Spent codes that are shown to no effect, though there are tokens that came from them.

@@ -1,0 +1,2 @@
+-- Laws of a revocation that is served.
+pub mod Served

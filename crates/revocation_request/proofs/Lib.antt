@@ -1,0 +1,2 @@
+-- Laws of a revocation request.
+pub mod Readings
