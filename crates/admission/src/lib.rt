@@ -8,7 +8,7 @@ use protocol::limits::LEAST_OUTPUT;
 use protocol::{Decision, Input, Refusal};
 
 // How a call comes in: not at all, or at its time.
-#[derive(Drop)]
+#[derive(Clone, Copy)]
 pub enum Admission {
     Refused(Refusal),
     At(u64),

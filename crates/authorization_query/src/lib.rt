@@ -31,7 +31,7 @@ const CODE_CHALLENGE_METHOD: usize = 6;
 
 // The query of a known client, whose redirect address may be used: the client, where the state and the code challenge stand in
 // the query, and what is asked, which may be a refusal that the client is told.
-#[derive(Drop)]
+#[derive(Clone, Copy)]
 pub struct ClientQuery {
     pub client: Entry,
     pub state: Place,
@@ -40,7 +40,7 @@ pub struct ClientQuery {
 }
 
 // What reading a query comes to.
-#[derive(Drop)]
+#[derive(Clone, Copy)]
 pub enum QueryReading {
     ErrorPage(PageCause),
     FromClient(ClientQuery),

@@ -12,7 +12,7 @@ ghost use Rattle.authorization_server.specs.Numbers.{authorization_reply, token_
 // What the authorization endpoint answers, in numbers. `refusal` is 0 or 1 to 7, `error` the number of an error word or 0,
 // `length` how many bytes of location were written.
 #[repr(C)]
-#[derive(Drop)]
+#[derive(Clone, Copy)]
 pub struct AuthorizationReply {
     pub refusal: u32,
     pub error: u32,
@@ -22,7 +22,7 @@ pub struct AuthorizationReply {
 // What the token and the revocation endpoint answer, in numbers. `refusal` is 0 or 1 to 4, `status` the HTTP status, `error` the number of an
 // error word or 0, `challenge` whether to send WWW-Authenticate, `length` how many bytes of reply were written.
 #[repr(C)]
-#[derive(Drop)]
+#[derive(Clone, Copy)]
 pub struct TokenReply {
     pub refusal: u32,
     pub status: u32,
@@ -33,7 +33,7 @@ pub struct TokenReply {
 
 // What the access token check answers, in numbers. `refusal` is 0 or 2 to 4; `live` is 1 or 0; the rest is 0 unless it is 1.
 #[repr(C)]
-#[derive(Drop)]
+#[derive(Clone, Copy)]
 pub struct CheckReply {
     pub refusal: u32,
     pub live: u32,

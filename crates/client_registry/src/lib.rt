@@ -2,6 +2,8 @@
 //
 // `fitness_of` judges any bytes. `find` looks a client up in a fit registry, and what it finds, an `Entry`, is what the
 // readers of a client's parts take.
+#![tactic(auto)]
+
 ghost use Rattle.std.specs.Prelude.{◌≡◌, true, ◌+◌, ◌<◌, ◌≤◌, length, drop, get_or};
 ghost use Rattle.octets.specs.Lists.{every, same};
 ghost use Rattle.client_registry.specs.Layout.{public_size};
@@ -11,21 +13,21 @@ ghost use Rattle.client_registry.specs.Lookup.{client_at, record_at, next_of, fi
 pub mod layout;
 
 // Whether bytes are a client registry: how many clients it has, which fits a byte, or that they are none.
-#[derive(Drop)]
+#[derive(Clone, Copy)]
 pub enum Fitness {
     Clients(u8),
     Unfit,
 }
 
 // A client of a registry: its number, and where its record starts.
-#[derive(Drop)]
+#[derive(Clone, Copy)]
 pub struct Entry {
     pub number: u8,
     pub start: usize,
 }
 
 // What a look-up by id finds.
-#[derive(Drop)]
+#[derive(Clone, Copy)]
 pub enum FoundClient {
     At(Entry),
     Unknown,

@@ -2,6 +2,8 @@
 // library does not hold it.
 //
 // It calls only what form_coding has had since the first version, so that it can be built over a former decoder too.
+#![tactic(auto)]
+
 ghost use Rattle.std.specs.Prelude.{◌≡◌, length};
 ghost use Rattle.std.proofs.lemmas.List.Edits.{sets};
 ghost use Rattle.octets.specs.Lists.{same};

@@ -1,5 +1,7 @@
 // digest_probe: the digest of sha256 by itself, as the tests and the benchmark of host/ call it. No host links it, and the
 // library does not hold it.
+#![tactic(auto)]
+
 ghost use Rattle.std.specs.Prelude.{◌≡◌, length, leb};
 ghost use Rattle.std.proofs.lemmas.List.Edits.{sets};
 ghost use Rattle.octets.specs.Search.{bit};

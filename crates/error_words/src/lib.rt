@@ -10,7 +10,7 @@ use protocol::ErrorWord;
 pub const LONGEST: usize = 25;
 
 // What there is to know of a word: its HTTP status, its length, and its text with spaces behind it.
-#[derive(Drop)]
+#[derive(Clone, Copy)]
 struct Row(u32, usize, [u8; LONGEST]);
 
 // The table, in the order of the words' numbers.

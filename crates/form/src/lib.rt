@@ -2,6 +2,8 @@
 //
 // The coding of one name or value is the crate form_coding; here is the reader of a whole form: a cursor that goes
 // from piece to piece, and the places of the known names. What is asked of a place is the module values.
+#![tactic(auto)]
+
 mod values;
 
 ghost use Rattle.std.specs.Prelude.{◌≡◌, ◌-◌, ◌≤◌, length};
@@ -16,7 +18,7 @@ pub use values::{any_repeated, is_missing, is_once, is_repeated, value_into};
 pub const PLACES: usize = 8;
 
 // How often a name was seen with a value that is not empty.
-#[derive(Drop)]
+#[derive(Clone, Copy)]
 pub enum Count {
     Missing,
     Once,
@@ -24,7 +26,7 @@ pub enum Count {
 }
 
 // What was seen of a known name: how often, and where the last raw value stands.
-#[derive(Drop)]
+#[derive(Clone, Copy)]
 pub struct Place {
     pub count: Count,
     pub start: usize,
@@ -32,32 +34,32 @@ pub struct Place {
 }
 
 // A part of the form, from its start up to its end.
-#[derive(Drop)]
+#[derive(Clone, Copy)]
 struct Span {
     start: usize,
     end: usize,
 }
 
 // Where the reader is: at the start of a piece, or past the end of the form.
-#[derive(Drop)]
+#[derive(Clone, Copy)]
 struct Cursor {
     at: usize,
 }
 
-#[derive(Drop)]
+#[derive(Clone, Copy)]
 enum Step {
     Piece(Span, Cursor),
     End,
 }
 
-#[derive(Drop)]
+#[derive(Clone, Copy)]
 pub enum Outcome {
     WellFormed,
     Malformed,
 }
 
 // What a form says of the known names, in their order. Of a malformed form no name counts as seen.
-#[derive(Drop)]
+#[derive(Clone, Copy)]
 pub struct Form {
     pub outcome: Outcome,
     pub places: [Place; PLACES],

@@ -2,6 +2,8 @@
 //
 // A value is decoded in turns: a stretch of plain bytes is one, and so is each + and each %. Stretches are found and copied in
 // the module stretches.
+#![tactic(auto)]
+
 mod stretches;
 
 ghost use Rattle.std.specs.Prelude.{◌≡◌, ◌+◌, ◌*◌, ◌<◌, ◌≤◌, true, [], ◌∷◌, length, get_or, drop};
@@ -40,7 +42,7 @@ fn is_escape(v: &[u8], i: usize) -> bool
 }
 
 // A decoded byte, and how many bytes it is written in.
-#[derive(Drop)]
+#[derive(Clone, Copy)]
 struct Symbol {
     byte: u8,
     width: usize,
@@ -114,7 +116,7 @@ fn stands_at(e: &[u8], k: usize, text: &[u8]) -> bool
 
 // A turn that was compared: whether the bytes that it decodes to are those of e, where the next turn begins in the value, and
 // where those bytes end in e.
-#[derive(Drop)]
+#[derive(Clone, Copy)]
 struct Compared {
     equal: bool,
     next: usize,
@@ -163,7 +165,7 @@ pub fn value_equals(v: &[u8], e: &[u8]) -> bool
 }
 
 // A turn that was decoded: where the next begins in the value, and where what it wrote ends.
-#[derive(Drop)]
+#[derive(Clone, Copy)]
 struct Turn {
     next: usize,
     end: usize,
@@ -191,7 +193,7 @@ fn decode_turn(v: &[u8], i: usize, out: &mut [u8], at: usize) -> Turn
 }
 
 // What decoding a value came to: how many bytes it gave, and in how many turns.
-#[derive(Drop)]
+#[derive(Clone, Copy)]
 pub struct Decoding {
     pub length: usize,
     pub turns: usize,

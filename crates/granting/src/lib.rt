@@ -24,7 +24,7 @@ use token_store::{Found, Slot, Sought};
 
 // What a request comes to: the decision; the scope of what is issued, and whether a refresh token comes with it; 0 and
 // false where nothing is issued.
-#[derive(Drop)]
+#[derive(Clone, Copy)]
 pub struct Granted {
     pub decision: Decision,
     pub scope: u8,

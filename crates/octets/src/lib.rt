@@ -2,6 +2,8 @@
 //
 // Scans look at every byte and accumulate, with no early exit: that is quick, and the time says nothing of where
 // two texts differ. No other crate loops over bytes to compare or to test them.
+#![tactic(auto)]
+
 ghost use Rattle.std.specs.Prelude.{◌≡◌, ◌+◌, ◌<◌, ◌≤◌, length, replicate};
 ghost use Rattle.std.proofs.lemmas.List.Edits.{sets};
 ghost use Rattle.octets.specs.Lists.{part, every, is_zero, in_class, same, index_of};

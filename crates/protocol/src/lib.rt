@@ -2,6 +2,8 @@
 //
 // The definitions say, from raw bytes and numbers alone, what each endpoint answers, writes to the output and leaves
 // in the token store, for every input. The endpoints' crates are proved against them.
+#![tactic(auto)]
+
 use encoding::{DigestText, HandleText};
 
 pub mod limits;
@@ -9,7 +11,7 @@ pub mod limits;
 // ---- refusals
 
 // The error words of RFC 6749 that this server says.
-#[derive(Drop)]
+#[derive(Clone, Copy)]
 pub enum ErrorWord {
     InvalidRequest,
     InvalidClient,
@@ -24,7 +26,7 @@ pub enum ErrorWord {
 }
 
 // What a call is handed and may be unfit. A call with such an input changes nothing at all.
-#[derive(Drop)]
+#[derive(Clone, Copy)]
 pub enum Input {
     Buffers,
     Registry,
@@ -33,7 +35,7 @@ pub enum Input {
 }
 
 // Why the user is shown an error page: nothing can be sent to a redirect address.
-#[derive(Drop)]
+#[derive(Clone, Copy)]
 pub enum PageCause {
     Query,
     Client,
@@ -41,14 +43,14 @@ pub enum PageCause {
 }
 
 // Why a sound token request fails all the same: no room in the store, or a handle that is in use.
-#[derive(Drop)]
+#[derive(Clone, Copy)]
 pub enum Failure {
     NoRoom,
     Clash,
 }
 
 // Why a call is refused. A redirect and a token refusal carry their error word.
-#[derive(Drop)]
+#[derive(Clone, Copy)]
 pub enum Refusal {
     Unfit(Input),
     ErrorPage(PageCause),
@@ -60,7 +62,7 @@ pub enum Refusal {
 // ---- requests: what a call asks of the store, once its arguments are read. `client` is the client's number.
 
 // The scope that a request asks for: none, so all that may be had; a set; or a value that is no scope.
-#[derive(Drop)]
+#[derive(Clone, Copy)]
 pub enum ScopeAsked {
     Everything,
     Only(u8),
@@ -68,7 +70,7 @@ pub enum ScopeAsked {
 }
 
 // A code for a farm and a scope. `bound` says that redirect_uri was given, so that it must be repeated.
-#[derive(Drop)]
+#[derive(Clone, Copy)]
 pub struct CodeRequest {
     pub client: u8,
     pub farm: u32,
@@ -77,14 +79,14 @@ pub struct CodeRequest {
 }
 
 // Tokens for the code presented. `again` says that redirect_uri came, equal to the registered one.
-#[derive(Drop)]
+#[derive(Clone, Copy)]
 pub struct ExchangeRequest {
     pub client: u8,
     pub again: bool,
 }
 
 // An access token on the refresh token presented.
-#[derive(Drop)]
+#[derive(Clone, Copy)]
 pub struct RefreshRequest {
     pub client: u8,
     pub scope: ScopeAsked,
@@ -94,20 +96,20 @@ pub struct RefreshRequest {
 pub const NO_FARM: u32 = 0;
 
 // An access token for the client itself, on its credentials alone.
-#[derive(Drop)]
+#[derive(Clone, Copy)]
 pub struct CredentialsRequest {
     pub client: u8,
     pub scope: u8,
 }
 
 // That the token presented, access or refresh, be good no more (RFC 7009).
-#[derive(Drop)]
+#[derive(Clone, Copy)]
 pub struct RevocationRequest {
     pub client: u8,
 }
 
 // What is asked, or the refusal that came before the store was looked at.
-#[derive(Drop)]
+#[derive(Clone, Copy)]
 pub enum Request {
     Refused(Refusal),
     Code(CodeRequest),
@@ -120,7 +122,7 @@ pub enum Request {
 // A call as it was read: its request; the code or token that it presents; and the code challenge (RFC 7636) that a
 // code is asked for with, or that an exchange answers by its verifier. A request that presents no code or token has a text
 // that is no handle, and one without a challenge a text that is no digest.
-#[derive(Drop)]
+#[derive(Clone, Copy)]
 pub struct Reading {
     pub request: Request,
     pub presented: HandleText,
@@ -130,14 +132,14 @@ pub struct Reading {
 // ---- answers
 
 // Whether a call was granted: a code at the authorization endpoint, tokens at the token endpoint; or a revocation done.
-#[derive(Drop)]
+#[derive(Clone, Copy)]
 pub enum Decision {
     Grant,
     Refuse(Refusal),
 }
 
 // What the authorization endpoint answers: the decision, and how many bytes of location it wrote.
-#[derive(Drop)]
+#[derive(Clone, Copy)]
 pub struct AuthorizationAnswer {
     pub decision: Decision,
     pub length: usize,
@@ -145,7 +147,7 @@ pub struct AuthorizationAnswer {
 
 // What the token and the revocation endpoint answer: the decision, whether to send a WWW-Authenticate challenge, and how many bytes of
 // reply it wrote.
-#[derive(Drop)]
+#[derive(Clone, Copy)]
 pub struct TokenAnswer {
     pub decision: Decision,
     pub challenge: bool,
@@ -153,7 +155,7 @@ pub struct TokenAnswer {
 }
 
 // What a live access token stands for, and how many seconds it has left.
-#[derive(Drop)]
+#[derive(Clone, Copy)]
 pub struct LiveToken {
     pub client: u8,
     pub farm: u32,
@@ -162,7 +164,7 @@ pub struct LiveToken {
 }
 
 // What the access token check answers. Not live is an answer and no refusal.
-#[derive(Drop)]
+#[derive(Clone, Copy)]
 pub enum CheckAnswer {
     Refused(Refusal),
     NotLive,

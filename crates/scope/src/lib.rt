@@ -1,4 +1,6 @@
 // scope: sets of the eight scope names, and scope values as texts.
+#![tactic(auto)]
+
 ghost use Rattle.std.specs.Prelude.{◌≡◌, ◌+◌, ◌<◌, ◌≤◌, length};
 ghost use Rattle.octets.specs.Lists.{same};
 ghost use Rattle.octets.specs.Writing.{Appended};
@@ -6,7 +8,7 @@ ghost use Rattle.scope.specs.Set.{name_at, has, of_byte, join, meet, is_within};
 ghost use Rattle.scope.specs.Value.{bit_of, read_scope, row_of, name_text, scope_text};
 
 // A set of scope names, one bit for each.
-#[derive(Drop)]
+#[derive(Clone, Copy)]
 pub struct Scope {
     pub bits: u8,
 }
@@ -60,14 +62,14 @@ impl Scope {
 }
 
 // What a text says as a scope value: a set, or nothing, for its form or for a name that is unknown.
-#[derive(Drop)]
+#[derive(Clone, Copy)]
 pub enum ScopeValue {
     Names(Scope),
     Invalid,
 }
 
 // A scope name: its length, and its bytes with spaces behind them.
-#[derive(Drop)]
+#[derive(Clone, Copy)]
 struct Name(usize, [u8; 7]);
 
 // The eight names in the order of their bits.

@@ -2,6 +2,8 @@
 //
 // The message is not copied: its whole blocks are hashed where they lie, and only what is left of it goes into a buffer
 // with the padding. The time depends on the message's length alone.
+#![tactic(auto)]
+
 ghost use Rattle.std.specs.Prelude.{◌≡◌, ◌+◌, ◌%◌, ◌<◌, ◌≤◌, ◌++◌, length, take};
 ghost use Rattle.std.proofs.lemmas.List.Edits.{sets};
 ghost use Rattle.octets.specs.BigEndian.{big_endian_bytes};
@@ -11,7 +13,7 @@ ghost use Rattle.sha256.specs.Constants.{round_constants};
 ghost use Rattle.sha256.specs.Digest.{zero_bytes, padding, block_words, schedule_word, extended, first_sum, second_sum, round, rounds, added, compressed, hashed_all, state_bytes, digest};
 
 // The hash value, and the working variables of a block's rounds.
-#[derive(Drop)]
+#[derive(Clone, Copy)]
 pub struct State {
     pub a: u32,
     pub b: u32,

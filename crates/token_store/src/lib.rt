@@ -2,6 +2,8 @@
 //
 // `fit` answers whether bytes are a store; every other function asks for bytes of the right length. Contracts speak of
 // the decoded store, whose slots are numbered from 0: no caller looks at a byte.
+#![tactic(auto)]
+
 ghost use Rattle.std.specs.Prelude.{◌≡◌};
 ghost use Rattle.token_store.specs.Store.{is_live, is_bound_code, is_challenged, origin_of};
 
@@ -20,7 +22,7 @@ pub use time::{call_time, lifetime, set_time};
 pub use write::{clear, clear_tokens, issue, put};
 
 // What a slot of the store holds.
-#[derive(Drop)]
+#[derive(Clone, Copy)]
 pub struct Slot {
     pub kind: u8,
     pub handle: [u8; layout::HANDLE_SIZE],
@@ -64,7 +66,7 @@ impl Slot {
 }
 
 // What is sought: a code of any kind, a code that was exchanged, an access token, a refresh token, or a token of either kind.
-#[derive(Drop)]
+#[derive(Clone, Copy)]
 pub enum Sought {
     Code,
     Spent,
@@ -74,14 +76,14 @@ pub enum Sought {
 }
 
 // What a look-up gives: a slot's number, or nothing.
-#[derive(Drop)]
+#[derive(Clone, Copy)]
 pub enum Found {
     At(usize),
     Nothing,
 }
 
 // Where there is room for one slot more: the number of a slot that is free or has run out, or nowhere.
-#[derive(Drop)]
+#[derive(Clone, Copy)]
 pub(crate) enum Vacancy {
     At(usize),
     Full,

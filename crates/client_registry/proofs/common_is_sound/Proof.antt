@@ -6,11 +6,10 @@ use Rattle.client_registry.proofs.common_is_sound.Tie as tie
 
 returns : tie.Need-returns
 returns c =
-    let second = c.before in
-    let r = second.before.before.before.args.r.now in
-    rw (second.before.field-is-sound.ensures, second.field-is-sound2.ensures) (tests-common r)
+    let r = c.args.r.now in
+    rw (c.field_is_sound.ensures, c.field_is_sound-2.ensures) (tests-common r)
 
-pub common-is-sound-spec : {M : Type 1} → statement M
-common-is-sound-spec =
+pub common_is_sound_spec : {M : Type 1} → statement M
+common_is_sound_spec =
     tie.close
     (tie.spec (λ c κs. search rules) (λ c κs. search rules) (λ c. search rules) returns)

@@ -18,95 +18,83 @@ use Rattle.client_registry.proofs.Walk.{sound_from, sound-step, sound-end, lengt
 use Rattle.client_registry.proofs.count_records.Statement.{statement}
 use Rattle.client_registry.proofs.count_records.Tie as tie
 
-abbrev invariant-loop : tie.invariant-loop
-invariant-loop b at₀ n₀ at n =
+abbrev invariant-loop-at : tie.invariant-loop-at
+invariant-loop-at b at₀ n₀ at n =
     (at ≤ length b)
     × (n ≤ max_clients)
     × (n + length (records (drop at b)) ≡ length (records b))
     × (sound_from b at ≡ sound_from b 0)
 
-abbrev decreases-loop : tie.decreases-loop
-decreases-loop b at₀ n₀ at n = length b - at
+abbrev decreases-loop-at : tie.decreases-loop-at
+decreases-loop-at b at₀ n₀ at n = length b - at
 
 -- a turn's bytes and its position
-abbrev bytes : tie.In-loop invariant-loop decreases-loop → List ℕ
-bytes t = t.before.before.before.args.b.now
+abbrev bytes : tie.In-loop-at invariant-loop-at decreases-loop-at → List ℕ
+bytes t = t.args.b.now
 
-abbrev place : tie.In-loop invariant-loop decreases-loop → ℕ
-place t = t.before.loop.at
+abbrev place : tie.In-loop-at invariant-loop-at decreases-loop-at → ℕ
+place t = t.loop-at.at
 
--- the turn in which a size is read, and in which a record is judged
-abbrev sized : tie.After-record-size invariant-loop decreases-loop → tie.In-loop invariant-loop decreases-loop
-sized c = c.before.before.before
-
-abbrev turn : tie.After-record-is-sound invariant-loop decreases-loop → tie.In-loop invariant-loop decreases-loop
-turn c = sized c.before.before.before
-
-judged : (c : tie.After-record-is-sound invariant-loop decreases-loop) → c.record-is-sound.result ≡ sound_record (record_at (bytes (turn c)) (place (turn c)))
+judged : (c : tie.After-record_is_sound invariant-loop-at decreases-loop-at) → c.record_is_sound.result ≡ sound_record (record_at (bytes c.before.before.before.before.before.before) (place c.before.before.before.before.before.before))
 judged c =
-    let b = bytes (turn c) in
-    let at = place (turn c) in
-    let size = c.before.before.before.record-size in
-    c.record-is-sound.ensures ∙ ap sound_record (part-to b at (at + size.result) (record_size (get_or b at 0)) (omega (arith, size.ensures)))
+    let b = bytes c.before.before.before.before.before.before in
+    let at = place c.before.before.before.before.before.before in
+    let size = c.record_size-size in
+    c.record_is_sound.ensures ∙ ap sound_record (part-to b at (at + size.result) (record_size (get_or b at 0)) (omega (arith, size.ensures)))
 
-loop-holds : tie.Need-loop-init invariant-loop decreases-loop
+loop-holds : tie.Need-loop-at-init invariant-loop-at decreases-loop-at
 loop-holds c = (search rules, search rules, omega arith, refl)
 
-returns : tie.Need-returns invariant-loop decreases-loop
+returns : tie.Need-returns-then-n-eq-MAX_CLIENTS invariant-loop-at decreases-loop-at
 returns c =
-    let t = c.before in
-    count-many (bytes t) (omega (arith, length-step (bytes t) (place t) t.loop-test.true))
+    count-many (bytes c.before) (omega (arith, length-step (bytes c.before) (place c.before) c.loop-at-test.true))
 
 -- a record that is not sound ends the walk
-unsound : (t : tie.In-loop invariant-loop decreases-loop) → sound_record (record_at (bytes t) (place t)) ≡ false → Unfit ≡ count_if (sound_records (bytes t)) (bytes t)
-unsound t e = count-unsound (bytes t) (sym t.before.loop.invariant.3 ∙ sound-step (bytes t) (place t) t.loop-test.true ∙ rw e)
+unsound : (t : tie.In-loop-at invariant-loop-at decreases-loop-at) → sound_record (record_at (bytes t) (place t)) ≡ false → Unfit ≡ count_if (sound_records (bytes t)) (bytes t)
+unsound t e = count-unsound (bytes t) (sym t.loop-at.invariant.3 ∙ sound-step (bytes t) (place t) t.loop-at-test.true ∙ rw e)
 
-returns-2 : tie.Need-returns-2 invariant-loop decreases-loop
+returns-2 : tie.Need-returns-then-b-at invariant-loop-at decreases-loop-at
 returns-2 c =
-    let t = sized c.before in
-    unsound t (record-short (bytes t) (place t) (omega (arith, c.before.record-size.ensures)))
+    unsound c.before.before.before.before (record-short (bytes c.before.before.before.before) (place c.before.before.before.before) (omega (arith, c.record_size-size.ensures)))
 
-returns-3 : tie.Need-returns-3 invariant-loop decreases-loop
+returns-3 : tie.Need-returns-then-not-record_is_sound invariant-loop-at decreases-loop-at
 returns-3 c =
-    let t = turn c.before in
-    unsound t (sym (judged c.before) ∙ not-true _ c.if3.true)
+    unsound c.before.before.before.before.before.before.before (sym (judged c.before) ∙ not-true _ c.if-not-record_is_sound.true-raw)
 
-loop-less : tie.Need-loop-smaller invariant-loop decreases-loop
+loop-less : tie.Need-loop-at-smaller invariant-loop-at decreases-loop-at
 loop-less c =
-    let t = turn c.before in
-    let size = c.before.before.before.before.record-size.ensures in
-    omega (arith, size, size-least (get_or (bytes t) (place t) 0))
+    let size = c.record_size-size.ensures in
+    omega (arith, size, size-least (get_or (bytes c.before.before.before.before.before.before.before) (place c.before.before.before.before.before.before.before) 0))
 
-loop-again : tie.Need-loop-preserved invariant-loop decreases-loop
+loop-again : tie.Need-loop-at-preserved invariant-loop-at decreases-loop-at
 loop-again c =
-    let t = turn c.before in
-    let b = bytes t in
-    let at = place t in
-    let size = c.before.before.before.before.record-size in
+    let b = bytes c.before.before.before.before.before.before.before in
+    let at = place c.before.before.before.before.before.before.before in
+    let size = c.record_size-size in
     let next : at + size.result ≡ next_of b at = ap (λ (k : ℕ). at + k) size.ensures in
-    let good : sound_record (record_at b at) ≡ true = sym (judged c.before) ∙ not-false _ c.if3.false in (
+    let good : sound_record (record_at b at) ≡ true = sym (judged c.before) ∙ not-false _ c.if-not-record_is_sound.false-raw in (
       search rules,
       search rules,
-      omega (arith, length-step b at t.loop-test.taken, ap (λ (p : ℕ). length (records (drop p b))) next),
-      ap (sound_from b) next ∙ sym (sound-step b at t.loop-test.taken ∙ rw good) ∙ t.before.loop.inv.3,
+      omega (arith, length-step b at c.loop-at-test.true, ap (λ (p : ℕ). length (records (drop p b))) next),
+      ap (sound_from b) next ∙ sym (sound-step b at c.loop-at-test.true ∙ rw good) ∙ c.loop-at.invariant.3,
     )
 
-returns-4 : tie.Need-returns-4 invariant-loop decreases-loop
+returns-4 : tie.Need-returns-then-n-eq0 invariant-loop-at decreases-loop-at
 returns-4 c =
-    let b = c.before.before.before.before.args.b.now in
-    let l = c.before.before.loop in
-    count_none b (omega (arith, ap length (records-end b l.at c.before.loop-test.false)))
+    let b = c.args.b.now in
+    let l = c.loop-at in
+    count_none b (omega (arith, ap length (records-end b l.at c.loop-at-test.false)))
 
-returns-5 : tie.Need-returns-5 invariant-loop decreases-loop
+returns-5 : tie.Need-returns invariant-loop-at decreases-loop-at
 returns-5 c =
-    let b = c.before.before.before.before.args.b.now in
-    let l = c.before.before.loop in
-    let end : records (drop l.at b) ≡ [] = records-end b l.at c.before.loop-test.false in
-    count-all b l.n (omega (arith, ap length end)) (omega arith) l.invariant.1 (sym l.invariant.3 ∙ sound-end b l.at c.before.loop-test.false)
+    let b = c.args.b.now in
+    let l = c.loop-at in
+    let end : records (drop l.at b) ≡ [] = records-end b l.at c.loop-at-test.false in
+    count-all b l.n (omega (arith, ap length end)) (omega arith) l.invariant.1 (sym l.invariant.3 ∙ sound-end b l.at c.loop-at-test.false)
 
-pub count-records-spec : {M : Type 1} → statement M
-count-records-spec =
+pub count_records_spec : {M : Type 1} → statement M
+count_records_spec =
     tie.close
-    (tie.spec invariant-loop decreases-loop loop-holds returns (λ c. search rules) (λ c κs. search rules) (λ c. search rules) returns-2
+    (tie.spec invariant-loop-at decreases-loop-at loop-holds returns (λ c. search rules) (λ c κs. search rules) (λ c. search rules) returns-2
     (λ c. search rules) (λ c. search rules) (λ c. search rules) (λ c. search rules) (λ c κs. search rules) returns-3
     (λ c. search rules) loop-less loop-again returns-4 returns-5)

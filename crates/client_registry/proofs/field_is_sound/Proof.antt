@@ -10,22 +10,20 @@ use Rattle.client_registry.proofs.Fields.{field-over, field-tests}
 use Rattle.client_registry.proofs.field_is_sound.Statement.{statement}
 use Rattle.client_registry.proofs.field_is_sound.Tie as tie
 
-returns : tie.Need-returns
+returns : tie.Need-returns-then-room-used
 returns c =
-    let a = c.before.before.before.before.args in
+    let a = c.args in
     sym (field-over (sound_text a.room a.low a.high a.except) a.r.now a.at a.room (omega arith))
 
-returns-2 : tie.Need-returns-2
+returns-2 : tie.Need-returns
 returns-2 c =
-    let read = c.before.before.before.before.before in
-    let start = read.before.before.before in
-    let a = start.args in
-    let used = read.wide in
-    ap₂ (λ (p q : Bool). leb 1 used.result && p && q) c.before.before.all-in-class.ensures c.all-zero.ensures
-    ∙ field-tests a.room a.low a.high a.except a.r.now a.at used.result start.requires used.ensures (omega arith)
+    let a = c.args in
+    let used = c.wide-used in
+    ap₂ (λ (p q : Bool). leb 1 used.result && p && q) c.all_in_class.ensures c.all_zero.ensures
+    ∙ field-tests a.room a.low a.high a.except a.r.now a.at used.result c.requires used.ensures (omega arith)
 
-pub field-is-sound-spec : {M : Type 1} → statement M
-field-is-sound-spec =
+pub field_is_sound_spec : {M : Type 1} → statement M
+field_is_sound_spec =
     tie.close
     (tie.spec (λ c. search rules) (λ c κs. search rules) returns (λ c. search rules) (λ c. search rules) (λ c. search rules)
     (λ c. search rules) (λ c. search rules) (λ c. search rules) (λ c κs. search rules) (λ c. search rules) (λ c. search rules)

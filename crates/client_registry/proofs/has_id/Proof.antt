@@ -11,19 +11,18 @@ use Rattle.client_registry.proofs.Records.{sound-parts}
 use Rattle.client_registry.proofs.has_id.Statement.{statement}
 use Rattle.client_registry.proofs.has_id.Tie as tie
 
-field-text-requires : tie.Need-field-text-requires
+field-text-requires : tie.Need-field_text-requires
 field-text-requires c κs =
-    let r = c.record-at in
-    omega (arith, (sound-parts r.result.now (ap sound_record r.ensures.0 ∙ c.before.before.before.requires)).id.within)
+    let r = c.record_at in
+    omega (arith, (sound-parts r.result.now (ap sound_record r.ensures.0 ∙ c.requires)).id.within)
 
 returns : tie.Need-returns
 returns c =
-    let text = c.before in
-    let id = text.before.before.before.before.args.id.now in
+    let id = c.args.id.now in
     c.equal.ensures
-    ∙ ap (λ (x : List ℕ). same x id) (text.field-text.ensures ∙ ap (λ (r : List ℕ). field_text r at_id) text.before.record-at.ensures.0)
+    ∙ ap (λ (x : List ℕ). same x id) (c.field_text.ensures ∙ ap (λ (r : List ℕ). field_text r at_id) c.record_at.ensures.0)
 
-pub has-id-spec : {M : Type 1} → statement M
-has-id-spec =
+pub has_id_spec : {M : Type 1} → statement M
+has_id_spec =
     tie.close
     (tie.spec (λ c κs. search rules) field-text-requires (λ c κs. search rules) returns)

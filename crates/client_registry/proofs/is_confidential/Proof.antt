@@ -6,9 +6,9 @@ use Rattle.client_registry.proofs.is_confidential.Statement.{statement}
 use Rattle.client_registry.proofs.is_confidential.Tie as tie
 
 returns : tie.Need-returns
-returns c = ap (λ (x : Client). x.confidential) c.before.record_of.ensures.client
+returns c = ap (λ (x : Client). x.confidential) c.record_of-r.ensures.client
 
-pub is-confidential-spec : {M : Type 1} → statement M
-is-confidential-spec =
+pub is_confidential_spec : {M : Type 1} → statement M
+is_confidential_spec =
     tie.close
     (tie.spec (λ c κs. search rules) (λ c. search rules) returns)

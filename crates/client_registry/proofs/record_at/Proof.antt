@@ -15,13 +15,12 @@ use Rattle.client_registry.proofs.record_at.Tie as tie
 
 returns : tie.Need-returns
 returns c =
-    let s = c.before.before.before in
-    let b = s.args.b.now in
-    let at = s.args.at in
-    let e = part-to b at c.before.next_start.result (record_size (get_or b at 0)) c.before.next_start.ensures.0 in
-    (e, subst (λ (r : List ℕ). public_size ≤ length r) (sym e) (sound-least (record_at b at) s.requires))
+    let b = c.args.b.now in
+    let at = c.args.at in
+    let e = part-to b at c.next_start-end.result (record_size (get_or b at 0)) c.next_start-end.ensures.0 in
+    (e, subst (λ (r : List ℕ). public_size ≤ length r) (sym e) (sound-least (record_at b at) c.requires))
 
-pub record-at-spec : {M : Type 1} → statement M
-record-at-spec =
+pub record_at_spec : {M : Type 1} → statement M
+record_at_spec =
     tie.close
     (tie.spec (λ c κs. search rules) (λ c. search rules) (λ c. search rules) (λ c. search rules) returns)

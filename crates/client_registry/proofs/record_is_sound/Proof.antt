@@ -5,22 +5,21 @@ use Rattle.client_registry.proofs.Records.{tests-public, tests-confidential, tes
 use Rattle.client_registry.proofs.record_is_sound.Statement.{statement}
 use Rattle.client_registry.proofs.record_is_sound.Tie as tie
 
-returns : tie.Need-returns
+returns : tie.Need-returns-then-r-eq-PUBLIC_SIZE
 returns c =
-    let r = c.before.before.before.before.args.r.now in
-    rw c.common-is-sound.ensures (tests-public r c.before.before.if1.true)
+    let r = c.args.r.now in
+    rw c.common_is_sound.ensures (tests-public r c.if-r-eq-PUBLIC_SIZE.true)
 
-returns-2 : tie.Need-returns-2
+returns-2 : tie.Need-returns-then-r-eq-CONFIDENTIAL_SIZE
 returns-2 c =
-    let tested = c.before.before.before in
-    let r = tested.before.before.before.args.r.now in
-    rw (c.before.common-is-sound2.ensures, c.field-is-sound.ensures) (tests-confidential r tested.if2.true)
+    let r = c.args.r.now in
+    rw (c.common_is_sound-then-r-eq-CONFIDENTIAL_SIZE.ensures, c.field_is_sound.ensures) (tests-confidential r c.if-r-eq-CONFIDENTIAL_SIZE.true)
 
-returns-3 : tie.Need-returns-3
-returns-3 c = sym (tests-neither c.before.before.before.args.r.now c.before.if1.false c.if2.false)
+returns-3 : tie.Need-returns
+returns-3 c = sym (tests-neither c.args.r.now c.if-r-eq-PUBLIC_SIZE.false c.if-r-eq-CONFIDENTIAL_SIZE.false)
 
-pub record-is-sound-spec : {M : Type 1} → statement M
-record-is-sound-spec =
+pub record_is_sound_spec : {M : Type 1} → statement M
+record_is_sound_spec =
     tie.close
     (tie.spec (λ c. search rules) (λ c κs. search rules) returns (λ c. search rules) (λ c κs. search rules)
     (λ c κs. search rules) returns-2 returns-3)

@@ -4,14 +4,14 @@ use Rattle.client_registry.proofs.Records.{size-public, size-confidential, size-
 use Rattle.client_registry.proofs.record_size.Statement.{statement}
 use Rattle.client_registry.proofs.record_size.Tie as tie
 
-returns : tie.Need-returns
-returns c = sym (size-public c.before.args.kind c.if1.true)
+returns : tie.Need-returns-then-kind-eq-PUBLIC_KIND
+returns c = sym (size-public c.args.kind c.if-kind-eq-PUBLIC_KIND.true)
 
-returns-2 : tie.Need-returns-2
-returns-2 c = sym (size-confidential c.before.before.args.kind c.before.if1.false c.if2.true)
+returns-2 : tie.Need-returns-then-kind-eq-CONFIDENTIAL_KIND
+returns-2 c = sym (size-confidential c.args.kind c.if-kind-eq-PUBLIC_KIND.false c.if-kind-eq-CONFIDENTIAL_KIND.true)
 
-returns-3 : tie.Need-returns-3
-returns-3 c = sym (size-other c.before.before.args.kind c.before.if1.false c.if2.false)
+returns-3 : tie.Need-returns
+returns-3 c = sym (size-other c.args.kind c.if-kind-eq-PUBLIC_KIND.false c.if-kind-eq-CONFIDENTIAL_KIND.false)
 
-pub record-size-spec : {M : Type 1} → statement M
-record-size-spec = tie.close (tie.spec returns returns-2 returns-3)
+pub record_size_spec : {M : Type 1} → statement M
+record_size_spec = tie.close (tie.spec returns returns-2 returns-3)

@@ -7,15 +7,15 @@ use Rattle.client_registry.proofs.Records.{sound-parts}
 use Rattle.client_registry.proofs.redirect.Statement.{statement}
 use Rattle.client_registry.proofs.redirect.Tie as tie
 
-field-text-requires : tie.Need-field-text-requires
+field-text-requires : tie.Need-field_text-requires
 field-text-requires c κs =
     let r = c.record_of in
     omega (arith, (sound-parts r.result.now r.ensures.sound).redirect.within)
 
 returns : tie.Need-returns
-returns c = c.field-text.ensures ∙ ap (λ (x : Client). x.redirect) c.before.record_of.ensures.client
+returns c = c.field_text.ensures ∙ ap (λ (x : Client). x.redirect) c.record_of.ensures.client
 
-pub redirect-spec : {M : Type 1} → statement M
-redirect-spec =
+pub redirect_spec : {M : Type 1} → statement M
+redirect_spec =
     tie.close
     (tie.spec (λ c κs. search rules) field-text-requires returns)

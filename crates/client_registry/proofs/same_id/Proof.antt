@@ -12,16 +12,13 @@ use Rattle.client_registry.proofs.same_id.Tie as tie
 
 returns : tie.Need-returns
 returns c =
-    let two = c.before.before.before in
-    let one = two.before in
-    let s = one.before.before in
-    let b = s.args.b.now in
+    let b = c.args.b.now in
     c.equal.ensures
-    ∙ ap₂ (λ (r t : List ℕ). same (part r at_id (1 + id_room)) (part t at_id (1 + id_room))) one.record-at.ensures.0 two.record-at2.ensures.0
-    ∙ same-ids (record_at b s.args.at) (record_at b s.args.other) s.requires.0 s.requires.1
+    ∙ ap₂ (λ (r t : List ℕ). same (part r at_id (1 + id_room)) (part t at_id (1 + id_room))) c.record_at-one.ensures.0 c.record_at-two.ensures.0
+    ∙ same-ids (record_at b c.args.at) (record_at b c.args.other) c.requires.0 c.requires.1
 
-pub same-id-spec : {M : Type 1} → statement M
-same-id-spec =
+pub same_id_spec : {M : Type 1} → statement M
+same_id_spec =
     tie.close
     (tie.spec (λ c κs. search rules) (λ c κs. search rules) (λ c. search rules) (λ c. search rules) (λ c. search rules)
     (λ c. search rules) (λ c. search rules) (λ c. search rules) (λ c κs. search rules) returns)

@@ -6,9 +6,9 @@ use Rattle.client_registry.proofs.scope_set.Statement.{statement}
 use Rattle.client_registry.proofs.scope_set.Tie as tie
 
 returns : tie.Need-returns
-returns c = ap (λ (x : Client). x.scope) c.before.record_of.ensures.client
+returns c = ap (λ (x : Client). x.scope) c.record_of-r.ensures.client
 
-pub scope-set-spec : {M : Type 1} → statement M
-scope-set-spec =
+pub scope_set_spec : {M : Type 1} → statement M
+scope_set_spec =
     tie.close
     (tie.spec (λ c κs. search rules) (λ c. search rules) returns)

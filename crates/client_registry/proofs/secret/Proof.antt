@@ -10,25 +10,25 @@ use Rattle.client_registry.proofs.Clients.{has-secret, no-secret}
 use Rattle.client_registry.proofs.secret.Statement.{statement}
 use Rattle.client_registry.proofs.secret.Tie as tie
 
-returns : tie.Need-returns
+returns : tie.Need-returns-then-r-ne-CONFIDENTIAL_KIND
 returns c =
-    let of = c.before.before.before.record_of in
+    let of = c.record_of-r in
     let r = of.result.now in
-    sym (no-secret r of.ensures.sound (ne_eqb (get_or r 0 0) confidential_kind c.before.if1.true))
+    sym (no-secret r of.ensures.sound (ne_eqb (get_or r 0 0) confidential_kind c.if-r-ne-CONFIDENTIAL_KIND.true))
     ∙ ap (λ (x : Client). x.secret) of.ensures.client
 
-field-text-requires : tie.Need-field-text-requires
+field-text-requires : tie.Need-field_text-requires
 field-text-requires c κs =
-    let of = c.before.before.record_of in
+    let of = c.record_of-r in
     let r = of.result.now in
-    let secret = has-secret r of.ensures.sound (eq-eqb (get_or r 0 0) confidential_kind c.if1.false) in
+    let secret = has-secret r of.ensures.sound (eq-eqb (get_or r 0 0) confidential_kind c.if-r-ne-CONFIDENTIAL_KIND.false) in
     omega (arith, secret.secret.within, secret.size)
 
-returns-2 : tie.Need-returns-2
-returns-2 c = c.field-text.ensures ∙ ap (λ (x : Client). x.secret) c.before.before.before.record_of.ensures.client
+returns-2 : tie.Need-returns
+returns-2 c = c.field_text.ensures ∙ ap (λ (x : Client). x.secret) c.record_of-r.ensures.client
 
-pub secret-spec : {M : Type 1} → statement M
-secret-spec =
+pub secret_spec : {M : Type 1} → statement M
+secret_spec =
     tie.close
     (tie.spec (λ c κs. search rules) (λ c. search rules) (λ c. search rules) (λ c. search rules) (λ c. search rules) returns
     field-text-requires returns-2)

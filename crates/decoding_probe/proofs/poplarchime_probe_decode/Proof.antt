@@ -6,13 +6,13 @@ use Rattle.decoding_probe.specs.Probe.{decoded_into}
 use Rattle.decoding_probe.proofs.poplarchime_probe_decode.Statement.{statement}
 use Rattle.decoding_probe.proofs.poplarchime_probe_decode.Tie as tie
 
-returns : tie.Need-returns
+returns : tie.Need-returns-then-out-value
 unfolding decoded_into
-returns c = rw (lt-leb _ _ c.if1.true) (refl, refl)
+returns c = rw (lt-leb _ _ c.if-out-value.true) (refl, refl)
 
-returns-2 : tie.Need-returns-2
+returns-2 : tie.Need-returns
 unfolding decoded_into
-returns-2 c = let d = c.before.before.decode-into.ensures in rw (le-leb _ _ c.before.before.before.before.if1.false) d
+returns-2 c = let d = c.decode_into.ensures in rw (le-leb _ _ c.if-out-value.false) d
 
-pub poplarchime-probe-decode-spec : {M : Type 1} → statement M
-poplarchime-probe-decode-spec = tie.close (tie.spec returns (λ c κs. search rules) (λ c. search rules) returns-2)
+pub poplarchime_probe_decode_spec : {M : Type 1} → statement M
+poplarchime_probe_decode_spec = tie.close (tie.spec returns (λ c κs. search rules) (λ c. search rules) returns-2)

@@ -6,18 +6,16 @@ use Rattle.digest_probe.specs.Probe.{digest_into}
 use Rattle.digest_probe.proofs.poplarchime_probe_digest.Statement.{statement}
 use Rattle.digest_probe.proofs.poplarchime_probe_digest.Tie as tie
 
-returns : tie.Need-returns
+returns : tie.Need-returns-then-out-lt-DIGEST_SIZE
 unfolding digest_into
-returns c = rw (lt-leb _ _ c.if1.true) (refl, refl)
+returns c = rw (lt-leb _ _ c.if-out-lt-DIGEST_SIZE.true) (refl, refl)
 
-returns-2 : tie.Need-returns-2
+returns-2 : tie.Need-returns
 unfolding digest_into
 returns-2 c =
-    let at_copy = c.before.before in
-    let at-digest = at_copy.before.before.before in
-    rw (le-leb _ _ at-digest.before.if1.false) (refl, at_copy.copy_at.ensures ∙ rw at-digest.digest.ensures)
+    rw (le-leb _ _ c.if-out-lt-DIGEST_SIZE.false) (refl, c.copy_at.ensures ∙ rw c.digest-digest.ensures)
 
-pub poplarchime-probe-digest-spec : {M : Type 1} → statement M
-poplarchime-probe-digest-spec =
+pub poplarchime_probe_digest_spec : {M : Type 1} → statement M
+poplarchime_probe_digest_spec =
     tie.close
     (tie.spec returns (λ c κs. search rules) (λ c. search rules) (λ c κs. search rules) (λ c. search rules) returns-2)

@@ -19,71 +19,60 @@ use Rattle.form.proofs.Places.{read-malformed, read-well-formed, says_of}
 use Rattle.form.proofs.read.Statement.{statement}
 use Rattle.form.proofs.read.Tie as tie
 
-abbrev invariant-loop : tie.invariant-loop
-invariant-loop s names places₀ c₀ places c =
+abbrev invariant-loop-p : tie.invariant-loop-p
+invariant-loop-p s names places₀ c₀ places c =
     (c.at ≤ length s + 1) × (enter_all (pieces names) places c.at (remaining 38 s c.at) ≡ places_of (pieces names) s)
 
-abbrev decreases-loop : tie.decreases-loop
-decreases-loop s names places₀ c₀ places c = length s + 1 - c.at
-
--- the entry, seen from the test and from a step
-abbrev entry : tie.After-well-formed invariant-loop decreases-loop → tie.Start invariant-loop decreases-loop
-entry c = c.before.before.before
-
-abbrev start : tie.After-next invariant-loop decreases-loop → tie.Start invariant-loop decreases-loop
-start c = entry c.before.before.before.before
+abbrev decreases-loop-p : tie.decreases-loop-p
+decreases-loop-p s names places₀ c₀ places c = length s + 1 - c.at
 
 -- what the test tells
-tested : (c : tie.After-well-formed invariant-loop decreases-loop) → is_well_formed_form (entry c).args.s.now ≡ c.well-formed-2.result
-tested c = pieces-well (entry c).args.s.now ∙ sym c.well-formed-2.ensures
+tested : (c : tie.After-well_formed-2 invariant-loop-p decreases-loop-p) → is_well_formed_form c.args.s.now ≡ c.well_formed-2.result
+tested c = pieces-well c.args.s.now ∙ sym c.well_formed-2.ensures
 
 -- what the step tells, also where it gave a piece
-tells : (c : tie.After-next invariant-loop decreases-loop) (r : Step) → c.next.result ≡ r → Tells (start c).args.s.now c.before.loop.c.at r
-tells c r e = step-tells (start c).args.s.now c.before.loop.c.at r (sym e ∙ c.next.ensures)
+tells : (c : tie.After-next invariant-loop-p decreases-loop-p) (r : Step) → c.next.result ≡ r → Tells c.args.s.now c.loop-p.c.at r
+tells c r e = step-tells c.args.s.now c.loop-p.c.at r (sym e ∙ c.next.ensures)
 
-told : (c : tie.After-p invariant-loop decreases-loop)
-    → let n = c.before.before in Told (start n).args.s.now n.before.loop.c.at c.p.given.0.0 c.p.given.0.1.0
-told c = tells c.before.before _ c.p.given.1
+told : (c : tie.In-Piece invariant-loop-p decreases-loop-p)
+    → Told c.args.s.now c.loop-p.c.at c.in-Piece.p c.in-Piece.moved
+told c = tells c.before _ c.in-Piece.is
 
-returns : tie.Need-returns invariant-loop decreases-loop
+returns : tie.Need-returns-then-not-well_formed invariant-loop-p decreases-loop-p
 unfolding all_unseen
 returns c =
-    let a = (entry c.before).args in
-    let malformed = tested c.before ∙ not-true c.before.well-formed-2.result c.if1.true in
+    let a = c.args in
+    let malformed = tested c.before ∙ not-true c.well_formed-2.result c.if-not-well_formed.true-raw in
     says_of a.names.now a.s.now _ (sym (read-malformed a.names.now a.s.now malformed))
 
-loop-holds : tie.Need-loop-init invariant-loop decreases-loop
+loop-holds : tie.Need-loop-p-init invariant-loop-p decreases-loop-p
 unfolding places_of all_unseen
-loop-holds c = rw (c.new.ensures, leb-zero) (omega arith, refl)
+loop-holds c = rw (c.new-c.ensures, leb-zero) (omega arith, refl)
 
-returns-2 : tie.Need-returns-2 invariant-loop decreases-loop
+returns-2 : tie.Need-returns-in-End invariant-loop-p decreases-loop-p
 returns-2 c =
-    let n = c.before.before in
-    let a = (start n).args in
-    let l = n.before.loop in
-    let sound = n.before.before.before in
-    let formed = tested sound.before ∙ not-false sound.before.well-formed-2.result sound.if1.false in
-    let end = tells n End c.enum_told.given.1 in
+    let a = c.args in
+    let l = c.loop-p in
+    let formed = tested c.before.before.before.before.before ∙ not-false c.well_formed-2.result c.if-not-well_formed.false-raw in
+    let end = tells c.before End c.in-End.is in
     let done : l.places ≡ places_of (pieces a.names.now) a.s.now =
     sym (enter-end (pieces a.names.now) l.places a.s.now l.c.at end) ∙ l.invariant.1 in
     says_of a.names.now a.s.now _ (rw (read-well-formed a.names.now a.s.now formed, done))
 
-loop-again : tie.Need-loop-preserved invariant-loop decreases-loop
+loop-again : tie.Need-loop-p-preserved invariant-loop-p decreases-loop-p
 loop-again c =
-    let p = c.before.before in
-    let n = p.before.before in
-    let a = (start n).args in
-    let l = n.before.loop in
-    let t = told p in
-    let step = enter_step (pieces a.names.now) l.places a.s.now l.c.at p.p.given.0.0 p.p.given.0.1.0 t in
-    (omega arith, rw c.enter-piece.ensures (step ∙ l.invariant.1))
+    let a = c.args in
+    let l = c.loop-p in
+    let t = told c.before in
+    let step = enter_step (pieces a.names.now) l.places a.s.now l.c.at c.in-Piece.p c.in-Piece.moved t in
+    (omega arith, rw c.enter_piece-next.ensures (step ∙ l.invariant.1))
 
 pub read_spec : {M : Type 1} → statement M
 read_spec =
     tie.close
     (tie.spec
-    invariant-loop
-    decreases-loop
+    invariant-loop-p
+    decreases-loop-p
     (λ c κs. search rules)
     returns
     (λ c κs. search rules)
@@ -92,6 +81,6 @@ read_spec =
     (λ c. search rules)
     returns-2
     (λ c. search rules)
-    (λ c κs. let t = told c.before in (t.forward, t.within))
-    (λ c. let t = told c.before.before in omega arith)
+    (λ c κs. let t = told c in (t.forward, t.within))
+    (λ c. let t = told c.before in omega arith)
     loop-again)

@@ -4,6 +4,6 @@ use Rattle.form.specs.Places.{seen_again}
 use Rattle.form.proofs.seen_again.Statement.{statement}
 use Rattle.form.proofs.seen_again.Tie as tie
 
-pub seen-again-spec : {M : Type 1} → statement M
+pub seen_again_spec : {M : Type 1} → statement M
 unfolding seen_again
-seen-again-spec = tie.close (tie.spec (λ c κs. search rules) (λ c. rw c.one_more.ensures))
+seen_again_spec = tie.close (tie.spec (λ c κs. search rules) (λ c. rw c.one_more-count.ensures))

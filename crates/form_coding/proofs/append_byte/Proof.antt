@@ -13,30 +13,29 @@ use Rattle.form_coding.proofs.append_byte.Statement.{statement}
 use Rattle.form_coding.proofs.append_byte.Tie as tie
 
 -- what the first test told, past it
-not-kept : (c : tie.Else1) → is_kept c.before.before.before.args.b ≡ false
-not-kept c = sym c.before.is-kept.ensures ∙ c.if1.false
+not-kept : (c : tie.Else-is_kept) → is_kept c.args.b ≡ false
+not-kept c = sym c.is_kept.ensures ∙ c.if-is_kept.false
 
-returns : tie.Need-returns
+returns : tie.Need-returns-then-is_kept
 returns c =
-    let a = c.before.before.before.args in
-    rw (byte-kept a.b (sym c.before.is-kept.ensures ∙ c.if1.true)) (store-one a.out.now a.at a.b)
+    let a = c.args in
+    rw (byte-kept a.b (sym c.is_kept.ensures ∙ c.if-is_kept.true)) (store-one a.out.now a.at a.b)
 
-returns-2 : tie.Need-returns-2
+returns-2 : tie.Need-returns-then-b-eq32
 returns-2 c =
-    let a = c.before.before.before.before.args in
-    rw (byte-space a.b (not-kept c.before) c.if2.true) (store-one a.out.now a.at 43)
+    let a = c.args in
+    rw (byte-space a.b (not-kept c.before) c.if-b-eq32.true) (store-one a.out.now a.at 43)
 
-returns-3 : tie.Need-returns-3
+returns-3 : tie.Need-returns
 returns-3 c =
-    let past = c.before.before.before in
-    let a = past.before.before.before.args in
-    let high : c.before.hex-digit.result ≡ hex_digit 65 (a.b / 16) = c.before.hex-digit.ensures in
-    let low : c.hex-digit2.result ≡ hex_digit 65 (a.b % 16) = c.hex-digit2.ensures in
-    rw (byte-escape a.b (not-kept past) c.before.before.if2.false, ← low, ← high)
-    (store-three a.out.now a.at 37 c.before.hex-digit.result c.hex-digit2.result)
+    let a = c.args in
+    let high : c.hex_digit.result ≡ hex_digit 65 (a.b / 16) = c.hex_digit.ensures in
+    let low : c.hex_digit-2.result ≡ hex_digit 65 (a.b % 16) = c.hex_digit-2.ensures in
+    rw (byte-escape a.b (not-kept c.before.before.before) c.if-b-eq32.false, ← low, ← high)
+    (store-three a.out.now a.at 37 c.hex_digit.result c.hex_digit-2.result)
 
-pub append-byte-spec : {M : Type 1} → statement M
-append-byte-spec =
+pub append_byte_spec : {M : Type 1} → statement M
+append_byte_spec =
     tie.close
     (tie.spec
     (λ c κs. search rules)

@@ -10,42 +10,40 @@ use Rattle.form_coding.proofs.Coding.{byte-length, encode-step, encode-end}
 use Rattle.form_coding.proofs.append_value.Statement.{statement}
 use Rattle.form_coding.proofs.append_value.Tie as tie
 
-abbrev invariant-loop : tie.invariant-loop
-invariant-loop out₀ at v next₀ k₀ k-end out next k =
+abbrev invariant-loop-k : tie.invariant-loop-k
+invariant-loop-k out₀ at v next₀ k₀ k-end out next k =
     (k ≤ k-end)
     × (k-end ≡ length v)
     × (next + 3 * (length v - k) ≤ length out)
     × (length out ≡ length out₀)
     × Unwritten out₀ at (encode v) out next (encode (drop k v))
 
-abbrev decreases-loop : tie.decreases-loop
-decreases-loop out₀ at v next₀ k₀ k-end out next k = k-end - k
+abbrev decreases-loop-k : tie.decreases-loop-k
+decreases-loop-k out₀ at v next₀ k₀ k-end out next k = k-end - k
 
-loop-holds : tie.Need-loop-init invariant-loop decreases-loop
-loop-holds c = let a = c.before.before.args in (search rules, refl, search rules, refl, write-start a.out.now a.at (encode a.v.now))
+loop-holds : tie.Need-loop-k-init invariant-loop-k decreases-loop-k
+loop-holds c = let a = c.args in (search rules, refl, search rules, refl, write-start a.out.now a.at (encode a.v.now))
 
-loop-again : tie.Need-loop-preserved invariant-loop decreases-loop
+loop-again : tie.Need-loop-k-preserved invariant-loop-k decreases-loop-k
 loop-again c =
-    let call = c.before.before.append-byte in
-    let read = c.before.before.before in
-    let head = read.before.before.before in
-    let l = head.loop in
-    let v = head.before.before.before.args.v.now in
+    let call = c.append_byte-next in
+    let l = c.loop-k in
+    let v = c.args.v.now in
     let most = byte-length (get_or v l.k 0) in
     let rest = write-more (rw (encode-step v l.k (omega arith)) at l.invariant.4) call.ensures in
-    (omega arith, l.invariant.1, omega (arith, call.ensures.end, call.auto.0), call.auto.0 ∙ l.invariant.3, rest)
+    (omega arith, l.invariant.1, omega (arith, call.ensures.end, call.auto.out), call.auto.out ∙ l.invariant.3, rest)
 
-returns : tie.Need-returns invariant-loop decreases-loop
+returns : tie.Need-returns invariant-loop-k decreases-loop-k
 returns c =
-    let l = c.before.loop in
-    write-end (rw (encode-end c.before.before.before.before.args.v.now l.k (omega arith)) at l.invariant.4)
+    let l = c.loop-k in
+    write-end (rw (encode-end c.args.v.now l.k (omega arith)) at l.invariant.4)
 
-pub append-value-spec : {M : Type 1} → statement M
-append-value-spec =
+pub append_value_spec : {M : Type 1} → statement M
+append_value_spec =
     tie.close
     (tie.spec
-    invariant-loop
-    decreases-loop
+    invariant-loop-k
+    decreases-loop-k
     loop-holds
     (λ c. search rules)
     (λ c κs. search rules)

@@ -10,43 +10,39 @@ use Rattle.form_coding.proofs.Turns.{TurnIs, turn-symbol, turn-stretch}
 use Rattle.form_coding.proofs.compare_turn.Statement.{statement}
 use Rattle.form_coding.proofs.compare_turn.Tie as tie
 
-symbol : (c : tie.After-symbol-at)
-    → let a = c.before.before.before.before.before.before.args in
-    let s = c.symbol-at.result in
+symbol : (c : tie.After-symbol_at-s)
+    → let a = c.args in
+    let s = c.symbol_at-s.result in
     TurnIs a.v.now a.i s.width (s.byte ∷ [])
 symbol c =
-    let a = c.before.before.before.before.before.before.args in
-    turn-symbol a.v.now a.i (search rules) (sym c.before.before.is-mark.ensures ∙ c.before.if1.true) c.symbol-at.ensures
+    let a = c.args in
+    turn-symbol a.v.now a.i (search rules) (sym c.is_mark.ensures ∙ c.if-is_mark.true) c.symbol_at-s.ensures
 
-found : (c : tie.After-stretch-length)
-    → let a = c.before.before.before.before.before.before.before.args in
-    let n = c.stretch-length.result in
+found : (c : tie.After-stretch_length-n)
+    → let a = c.args in
+    let n = c.stretch_length-n.result in
     TurnIs a.v.now a.i n (part a.v.now a.i n)
 found c =
-    let test = c.before.before in
-    let a = test.before.before.before.before.before.args in
-    turn-stretch a.v.now a.i (search rules) (sym test.before.is-mark.ensures ∙ test.if1.false) c.stretch-length.ensures
+    let a = c.args in
+    turn-stretch a.v.now a.i (search rules) (sym c.is_mark.ensures ∙ c.if-is_mark.false) c.stretch_length-n.ensures
 
-returns : tie.Need-returns
+returns : tie.Need-returns-then-is_mark
 returns c =
-    let compared = c.before in
-    let read = compared.before in
-    let a = read.before.before.before.before.before.before.args in
-    let turn = symbol read in
-    ((rw turn.0, rw turn.1), compared.is_at.ensures ∙ rw turn.1)
+    let a = c.args in
+    let turn = symbol c.before.before in
+    ((rw turn.0, rw turn.1), c.is_at-equal.ensures ∙ rw turn.1)
 
-returns-2 : tie.Need-returns-2
+returns-2 : tie.Need-returns
 returns-2 c =
-    let find = c.before.before in
-    let a = find.before.before.before.before.before.before.before.args in
-    let n = find.stretch-length.result in
-    let turn = found find in
+    let a = c.args in
+    let n = c.stretch_length-n.result in
+    let turn = found c.before.before in
     let text = part-to a.v.now a.i (a.i + n) n refl in
     let long = length_part a.v.now a.i n turn.2 in
-    ((rw turn.0, rw (turn.1, long)), c.stands_at.ensures ∙ rw (turn.1, text))
+    ((rw turn.0, rw (turn.1, long)), c.stands_at-equal.ensures ∙ rw (turn.1, text))
 
-pub compare-turn-spec : {M : Type 1} → statement M
-compare-turn-spec =
+pub compare_turn_spec : {M : Type 1} → statement M
+compare_turn_spec =
     tie.close
     (tie.spec
     (λ c. search rules)

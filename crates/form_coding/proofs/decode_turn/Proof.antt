@@ -11,39 +11,36 @@ use Rattle.form_coding.proofs.Turns.{TurnIs, turn-symbol, turn-stretch}
 use Rattle.form_coding.proofs.decode_turn.Statement.{statement}
 use Rattle.form_coding.proofs.decode_turn.Tie as tie
 
-symbol : (c : tie.After-symbol-at)
-    → let a = c.before.before.before.before.before.before.args in
-    let s = c.symbol-at.result in
+symbol : (c : tie.After-symbol_at-s)
+    → let a = c.args in
+    let s = c.symbol_at-s.result in
     TurnIs a.v.now a.i s.width (s.byte ∷ [])
 symbol c =
-    let a = c.before.before.before.before.before.before.args in
-    turn-symbol a.v.now a.i (search rules) (sym c.before.before.is-mark.ensures ∙ c.before.if1.true) c.symbol-at.ensures
+    let a = c.args in
+    turn-symbol a.v.now a.i (search rules) (sym c.is_mark.ensures ∙ c.if-is_mark.true) c.symbol_at-s.ensures
 
-copied : (c : tie.After-copy-stretch)
-    → let a = c.before.before.before.before.before.before.before.before.args in
-    let n = c.copy-stretch.result in
+copied : (c : tie.After-copy_stretch-n)
+    → let a = c.args in
+    let n = c.copy_stretch-n.result in
     TurnIs a.v.now a.i n (part a.v.now a.i n)
 copied c =
-    let test = c.before.before.before in
-    let a = test.before.before.before.before.before.args in
-    turn-stretch a.v.now a.i (search rules) (sym test.before.is-mark.ensures ∙ test.if1.false) c.copy-stretch.ensures.0
+    let a = c.args in
+    turn-stretch a.v.now a.i (search rules) (sym c.is_mark.ensures ∙ c.if-is_mark.false) c.copy_stretch-n.ensures.0
 
-returns : tie.Need-returns
+returns : tie.Need-returns-then-is_mark
 returns c =
-    let read = c.before in
-    let a = read.before.before.before.before.before.before.args in
-    let turn = symbol read in
-    (rw turn.0, rw turn.1 (store-one a.out.now a.at read.symbol-at.result.byte))
+    let a = c.args in
+    let turn = symbol c.before in
+    (rw turn.0, rw turn.1 (store-one a.out.now a.at c.symbol_at-s.result.byte))
 
-returns-2 : tie.Need-returns-2
+returns-2 : tie.Need-returns
 returns-2 c =
-    let copy = c.before.before in
-    let a = copy.before.before.before.before.before.before.before.before.args in
-    let turn = copied copy in
-    (rw turn.0, rw turn.1 (rw (part-rest a.v.now a.i) at copy.copy-stretch.ensures.1))
+    let a = c.args in
+    let turn = copied c.before.before in
+    (rw turn.0, rw turn.1 (rw (part-rest a.v.now a.i) at c.copy_stretch-n.ensures.1))
 
-pub decode-turn-spec : {M : Type 1} → statement M
-decode-turn-spec =
+pub decode_turn_spec : {M : Type 1} → statement M
+decode_turn_spec =
     tie.close
     (tie.spec
     (λ c. search rules)

@@ -7,7 +7,7 @@ use Rattle.form_coding.proofs.digit_at.Statement.{statement}
 use Rattle.form_coding.proofs.digit_at.Tie as tie
 
 returns : tie.Need-returns
-returns c = c.hex-value.ensures ∙ ap (hex_value true) c.before.byte-or-zero.ensures
+returns c = c.hex_value.ensures ∙ ap (hex_value true) c.byte_or_zero.ensures
 
-pub digit-at-spec : {M : Type 1} → statement M
-digit-at-spec = tie.close (tie.spec (λ c κs. search rules) (λ c κs. search rules) returns)
+pub digit_at_spec : {M : Type 1} → statement M
+digit_at_spec = tie.close (tie.spec (λ c κs. search rules) (λ c κs. search rules) returns)

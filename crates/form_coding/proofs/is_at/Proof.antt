@@ -6,8 +6,8 @@ use Rattle.form_coding.proofs.is_at.Tie as tie
 
 returns : tie.Need-returns
 returns c =
-    let a = c.before.before.args in
-    rw c.byte-or-zero.ensures (stands_one a.e.now a.k a.b)
+    let a = c.args in
+    rw c.byte_or_zero.ensures (stands_one a.e.now a.k a.b)
 
-pub is-at-spec : {M : Type 1} → statement M
-is-at-spec = tie.close (tie.spec (λ c κs. search rules) returns)
+pub is_at_spec : {M : Type 1} → statement M
+is_at_spec = tie.close (tie.spec (λ c κs. search rules) returns)

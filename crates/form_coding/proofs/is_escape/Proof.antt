@@ -8,19 +8,19 @@ use Rattle.form_coding.proofs.Coding.{escape-other, escape-percent}
 use Rattle.form_coding.proofs.is_escape.Statement.{statement}
 use Rattle.form_coding.proofs.is_escape.Tie as tie
 
-returns : tie.Need-returns
+returns : tie.Need-returns-then-v-i-ne37
 returns c =
-    let a = c.before.before.before.args in
-    escape-other a.v.now a.i c.if1.true
+    let a = c.args in
+    escape-other a.v.now a.i c.if-v-i-ne37.true
 
-returns-2 : tie.Need-returns-2
+returns-2 : tie.Need-returns
 returns-2 c =
-    let a = c.before.before.before.before.before.args in
-    ap₂ (λ (h l : ℕ). ltb h 16 && ltb l 16) c.before.digit_at.ensures c.digit-at2.ensures
-    ∙ escape-percent a.v.now a.i c.before.before.if1.false
+    let a = c.args in
+    ap₂ (λ (h l : ℕ). ltb h 16 && ltb l 16) c.digit_at-h.ensures c.digit_at-l.ensures
+    ∙ escape-percent a.v.now a.i c.if-v-i-ne37.false
 
-pub is-escape-spec : {M : Type 1} → statement M
-is-escape-spec =
+pub is_escape_spec : {M : Type 1} → statement M
+is_escape_spec =
     tie.close
     (tie.spec
     (λ c. search rules)

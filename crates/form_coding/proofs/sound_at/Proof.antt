@@ -5,15 +5,15 @@ use Rattle.form_coding.proofs.Coding.{sound-other, sound-percent}
 use Rattle.form_coding.proofs.sound_at.Statement.{statement}
 use Rattle.form_coding.proofs.sound_at.Tie as tie
 
-returns : tie.Need-returns
+returns : tie.Need-returns-then-v-i-ne37
 returns c =
-    let a = c.before.before.before.args in
-    sound-other a.v.now a.i c.if1.true
+    let a = c.args in
+    sound-other a.v.now a.i c.if-v-i-ne37.true
 
-returns-2 : tie.Need-returns-2
+returns-2 : tie.Need-returns
 returns-2 c =
-    let a = c.before.before.before.before.args in
-    c.is-escape.ensures ∙ sound-percent a.v.now a.i c.before.if1.false
+    let a = c.args in
+    c.is_escape.ensures ∙ sound-percent a.v.now a.i c.if-v-i-ne37.false
 
-pub sound-at-spec : {M : Type 1} → statement M
-sound-at-spec = tie.close (tie.spec (λ c. search rules) returns (λ c κs. search rules) returns-2)
+pub sound_at_spec : {M : Type 1} → statement M
+sound_at_spec = tie.close (tie.spec (λ c. search rules) returns (λ c κs. search rules) returns-2)

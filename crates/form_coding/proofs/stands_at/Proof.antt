@@ -8,23 +8,23 @@ use Rattle.form_coding.proofs.Turns.{stands-past, stands-long}
 use Rattle.form_coding.proofs.stands_at.Statement.{statement}
 use Rattle.form_coding.proofs.stands_at.Tie as tie
 
-returns : tie.Need-returns
+returns : tie.Need-returns-then-e-k
 returns c =
-    let a = c.before.before.before.args in
-    stands-past a.e.now a.k a.text.now c.if1.true
+    let a = c.args in
+    stands-past a.e.now a.k a.text.now c.if-e-k.true
 
-returns-2 : tie.Need-returns-2
+returns-2 : tie.Need-returns-then-e-k-2
 returns-2 c =
-    let a = c.before.before.before.before.args in
-    stands-long a.e.now a.k a.text.now c.if2.true
+    let a = c.args in
+    stands-long a.e.now a.k a.text.now c.if-e-k-2.true
 
-returns-3 : tie.Need-returns-3
+returns-3 : tie.Need-returns
 returns-3 c =
-    let a = c.before.before.before.before.before.before.args in
+    let a = c.args in
     c.equal.ensures ∙ rw (part-to a.e.now a.k (a.k + length a.text.now) (length a.text.now) refl)
 
-pub stands-at-spec : {M : Type 1} → statement M
-stands-at-spec =
+pub stands_at_spec : {M : Type 1} → statement M
+stands_at_spec =
     tie.close
     (tie.spec
     returns

@@ -12,37 +12,37 @@ use Rattle.form_coding.proofs.symbol_at.Statement.{statement}
 use Rattle.form_coding.proofs.symbol_at.Tie as tie
 
 -- what the second test says of the escape
-tested : (c : tie.After-digit-at2)
-    → (eqb (get_or c.before.before.before.before.before.args.v.now c.before.before.before.before.before.args.i 0) 37
-    && (ltb c.before.digit_at.result 16 && ltb c.digit-at2.result 16))
-    ≡ is_escape (drop c.before.before.before.before.before.args.i c.before.before.before.before.before.args.v.now)
+tested : (c : tie.After-digit_at-l)
+    → (eqb (get_or c.args.v.now c.args.i 0) 37
+    && (ltb c.digit_at-h.result 16 && ltb c.digit_at-l.result 16))
+    ≡ is_escape (drop c.args.i c.args.v.now)
 tested c =
-    let a = c.before.before.before.before.before.args in
-    rw (c.before.digit_at.ensures, c.digit-at2.ensures) (sym (escape-at a.v.now a.i))
+    let a = c.args in
+    rw (c.digit_at-h.ensures, c.digit_at-l.ensures) (sym (escape-at a.v.now a.i))
 
-digits : (c : tie.Then2) → (c.before.before.digit_at.result < 16) × (c.before.digit-at2.result < 16)
+digits : (c : tie.Then-c-h) → (c.digit_at-h.result < 16) × (c.digit_at-l.result < 16)
 digits c =
-    let a = c.before.before.before.before.before.before.args in
-    let d = escape-digits a.v.now a.i (sym (tested c.before) ∙ c.if2.true) in
-    (rw c.before.before.digit_at.ensures d.0, rw c.before.digit-at2.ensures d.1)
+    let a = c.args in
+    let d = escape-digits a.v.now a.i (sym (tested c.before) ∙ c.if-c-h.true) in
+    (rw c.digit_at-h.ensures d.0, rw c.digit_at-l.ensures d.1)
 
-returns : tie.Need-returns
+returns : tie.Need-returns-then-c-eq43
 returns c =
-    let a = c.before.before.before.args in
-    sym (symbol-space a.v.now a.i c.if1.true)
+    let a = c.args in
+    sym (symbol-space a.v.now a.i c.if-c-eq43.true)
 
-returns-2 : tie.Need-returns-2
+returns-2 : tie.Need-returns-then-c-h
 returns-2 c =
-    let a = c.before.before.before.before.before.before.args in
-    rw (symbol-escape a.v.now a.i (sym (tested c.before) ∙ c.if2.true), c.before.before.digit_at.ensures, c.before.digit-at2.ensures)
+    let a = c.args in
+    rw (symbol-escape a.v.now a.i (sym (tested c.before) ∙ c.if-c-h.true), c.digit_at-h.ensures, c.digit_at-l.ensures)
 
-returns-3 : tie.Need-returns-3
+returns-3 : tie.Need-returns
 returns-3 c =
-    let a = c.before.before.before.before.before.before.args in
-    sym (symbol-itself a.v.now a.i (sym (tested c.before) ∙ c.if2.false) c.before.before.before.if1.false)
+    let a = c.args in
+    sym (symbol-itself a.v.now a.i (sym (tested c.before) ∙ c.if-c-h.false) c.if-c-eq43.false)
 
-pub symbol-at-spec : {M : Type 1} → statement M
-symbol-at-spec =
+pub symbol_at_spec : {M : Type 1} → statement M
+symbol_at_spec =
     tie.close
     (tie.spec
     (λ c. search rules)

@@ -10,31 +10,31 @@ use Rattle.octets.proofs.Lists.{every-none, every_more}
 use Rattle.octets.proofs.all_zero.Statement.{statement}
 use Rattle.octets.proofs.all_zero.Tie as tie
 
-abbrev invariant-loop : tie.invariant-loop
-invariant-loop s ok₀ i₀ i-end ok i = (i ≤ i-end) × (i-end ≡ length s) × (ok ≡ every is_zero (take i s))
+abbrev invariant-loop-i : tie.invariant-loop-i
+invariant-loop-i s ok₀ i₀ i-end ok i = (i ≤ i-end) × (i-end ≡ length s) × (ok ≡ every is_zero (take i s))
 
-abbrev decreases-loop : tie.decreases-loop
-decreases-loop s ok₀ i₀ i-end ok i = i-end - i
+abbrev decreases-loop-i : tie.decreases-loop-i
+decreases-loop-i s ok₀ i₀ i-end ok i = i-end - i
 
-loop-holds : tie.Need-loop-init invariant-loop decreases-loop
+loop-holds : tie.Need-loop-i-init invariant-loop-i decreases-loop-i
 loop-holds c = (search rules, refl, sym (every-none is_zero c.args.s.now))
 
-loop-again : tie.Need-loop-preserved invariant-loop decreases-loop
+loop-again : tie.Need-loop-i-preserved invariant-loop-i decreases-loop-i
 loop-again c =
-    let s = c.before.before.before.args.s.now in
-    let l = c.before.before.loop in (
+    let s = c.args.s.now in
+    let l = c.loop-i in (
       search rules,
       l.invariant.1,
       ap (λ (b : Bool). b && is_zero (get_or s l.i 0)) l.invariant.2 ∙ sym (every_more is_zero s l.i 0 (search rules)),
     )
 
-returns : tie.Need-returns invariant-loop decreases-loop
+returns : tie.Need-returns invariant-loop-i decreases-loop-i
 returns c =
-    let s = c.before.before.args.s.now in
-    let l = c.before.loop in
+    let s = c.args.s.now in
+    let l = c.loop-i in
     l.invariant.2 ∙ ap (every is_zero) (take_all l.i s (search rules))
 
-pub all-zero-spec : {M : Type 1} → statement M
-all-zero-spec =
+pub all_zero_spec : {M : Type 1} → statement M
+all_zero_spec =
     tie.close
-    (tie.spec invariant-loop decreases-loop loop-holds (λ c. search rules) (λ c. search rules) (λ c. search rules) loop-again returns)
+    (tie.spec invariant-loop-i decreases-loop-i loop-holds (λ c. search rules) (λ c. search rules) (λ c. search rules) loop-again returns)

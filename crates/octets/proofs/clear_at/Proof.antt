@@ -11,37 +11,37 @@ use Rattle.octets.proofs.Stores.{copy-next, copy-end}
 use Rattle.octets.proofs.clear_at.Statement.{statement}
 use Rattle.octets.proofs.clear_at.Tie as tie
 
-abbrev invariant-loop : tie.invariant-loop
-invariant-loop b₀ at n i₀ b i = (i ≤ n) × (sets b (at + i) (drop i (replicate n 0)) ≡ sets b₀ at (replicate n 0)) × (length b ≡ length b₀)
+abbrev invariant-loop-i : tie.invariant-loop-i
+invariant-loop-i b₀ at n i₀ b i = (i ≤ n) × (sets b (at + i) (drop i (replicate n 0)) ≡ sets b₀ at (replicate n 0)) × (length b ≡ length b₀)
 
-abbrev decreases-loop : tie.decreases-loop
-decreases-loop b₀ at n i₀ b i = n - i
+abbrev decreases-loop-i : tie.decreases-loop-i
+decreases-loop-i b₀ at n i₀ b i = n - i
 
-loop-holds : tie.Need-loop-init invariant-loop decreases-loop
+loop-holds : tie.Need-loop-i-init invariant-loop-i decreases-loop-i
 loop-holds c = (search rules, rw add-zero, refl)
 
-loop-again : tie.Need-loop-preserved invariant-loop decreases-loop
+loop-again : tie.Need-loop-i-preserved invariant-loop-i decreases-loop-i
 loop-again c =
-    let a = c.before.before.args in
-    let l = c.before.loop in
+    let a = c.args in
+    let l = c.loop-i in
     let z : List ℕ = replicate a.n 0 in
     let n : l.i < length z = omega (arith, length-replicate {A = ℕ} a.n 0) in
     let e : get_or z l.i 0 ≡ 0 = get_or-replicate {A = ℕ} a.n l.i 0 0 (omega arith) in
     (omega arith, rw e at (copy-next l.b a.at z l.i n) ∙ l.invariant.1, simp length-set (omega arith))
 
-returns : tie.Need-returns invariant-loop decreases-loop
+returns : tie.Need-returns invariant-loop-i decreases-loop-i
 returns c =
-    let a = c.before.before.args in
-    let l = c.before.loop in
+    let a = c.args in
+    let l = c.loop-i in
     let z : List ℕ = replicate a.n 0 in
     sym (copy-end l.b _ z l.i (omega (arith, length-replicate {A = ℕ} a.n 0))) ∙ l.invariant.1
 
-pub clear-at-spec : {M : Type 1} → statement M
-clear-at-spec =
+pub clear_at_spec : {M : Type 1} → statement M
+clear_at_spec =
     tie.close
     (tie.spec
-    invariant-loop
-    decreases-loop
+    invariant-loop-i
+    decreases-loop-i
     loop-holds
     (λ c. search rules)
     (λ c. search rules)

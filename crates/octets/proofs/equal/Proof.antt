@@ -12,26 +12,26 @@ use Rattle.octets.proofs.Lists.{same_length, same_none, same_more}
 use Rattle.octets.proofs.equal.Statement.{statement}
 use Rattle.octets.proofs.equal.Tie as tie
 
-abbrev invariant-loop : tie.invariant-loop
-invariant-loop a b ok₀ i₀ i-end ok i = (i ≤ i-end) × (i-end ≡ length a) × (length a ≡ length b) × (ok ≡ same (take i a) (take i b))
+abbrev invariant-loop-i : tie.invariant-loop-i
+invariant-loop-i a b ok₀ i₀ i-end ok i = (i ≤ i-end) × (i-end ≡ length a) × (length a ≡ length b) × (ok ≡ same (take i a) (take i b))
 
-abbrev decreases-loop : tie.decreases-loop
-decreases-loop a b ok₀ i₀ i-end ok i = i-end - i
+abbrev decreases-loop-i : tie.decreases-loop-i
+decreases-loop-i a b ok₀ i₀ i-end ok i = i-end - i
 
-returns : tie.Need-returns invariant-loop decreases-loop
+returns : tie.Need-returns-then-a-b invariant-loop-i decreases-loop-i
 returns c =
-    let a = c.before.args in
-    sym (same_length a.a.now a.b.now c.if1.true)
+    let a = c.args in
+    sym (same_length a.a.now a.b.now c.if-a-b.true)
 
-loop-holds : tie.Need-loop-init invariant-loop decreases-loop
+loop-holds : tie.Need-loop-i-init invariant-loop-i decreases-loop-i
 loop-holds c =
-    let a = c.before.args in
-    (search rules, refl, c.if1.false, sym (same_none a.a.now a.b.now))
+    let a = c.args in
+    (search rules, refl, c.if-a-b.false, sym (same_none a.a.now a.b.now))
 
-loop-again : tie.Need-loop-preserved invariant-loop decreases-loop
+loop-again : tie.Need-loop-i-preserved invariant-loop-i decreases-loop-i
 loop-again c =
-    let a = c.before.before.before.before.before.args in
-    let l = c.before.before.before.loop in (
+    let a = c.args in
+    let l = c.loop-i in (
       search rules,
       l.invariant.1,
       l.invariant.2,
@@ -39,18 +39,18 @@ loop-again c =
           ∙ sym (same_more a.a.now a.b.now l.i (search rules) (search rules)),
     )
 
-returns-2 : tie.Need-returns-2 invariant-loop decreases-loop
+returns-2 : tie.Need-returns invariant-loop-i decreases-loop-i
 returns-2 c =
-    let a = c.before.before.before.args in
-    let l = c.before.loop in
+    let a = c.args in
+    let l = c.loop-i in
     l.invariant.3 ∙ ap₂ same (take_all l.i a.a.now (search rules)) (take_all l.i a.b.now (search rules))
 
-pub equal-spec : {M : Type 1} → statement M
-equal-spec =
+pub equal_spec : {M : Type 1} → statement M
+equal_spec =
     tie.close
     (tie.spec
-    invariant-loop
-    decreases-loop
+    invariant-loop-i
+    decreases-loop-i
     returns
     loop-holds
     (λ c. search rules)

@@ -9,36 +9,36 @@ use Rattle.octets.proofs.Pieces.{index-here, index-past, index-end}
 use Rattle.octets.proofs.index_of.Statement.{statement}
 use Rattle.octets.proofs.index_of.Tie as tie
 
-abbrev invariant-loop : tie.invariant-loop
-invariant-loop s x i₀ i = (i ≤ length s) × (i + index_of x (drop i s) ≡ index_of x s)
+abbrev invariant-loop-i : tie.invariant-loop-i
+invariant-loop-i s x i₀ i = (i ≤ length s) × (i + index_of x (drop i s) ≡ index_of x s)
 
-abbrev decreases-loop : tie.decreases-loop
-decreases-loop s x i₀ i = length s - i
+abbrev decreases-loop-i : tie.decreases-loop-i
+decreases-loop-i s x i₀ i = length s - i
 
-loop-holds : tie.Need-loop-init invariant-loop decreases-loop
+loop-holds : tie.Need-loop-i-init invariant-loop-i decreases-loop-i
 loop-holds c = (search rules, search rules)
 
-returns : tie.Need-returns invariant-loop decreases-loop
+returns : tie.Need-returns-then-s-i invariant-loop-i decreases-loop-i
 returns c =
-    let a = c.before.before.before.before.args in
-    omega (arith, index-here a.s.now a.x c.before.before.before.loop.i c.before.before.loop-test.true c.if1.true)
+    let a = c.args in
+    omega (arith, index-here a.s.now a.x c.loop-i.i c.loop-i-test.true c.if-s-i.true)
 
-loop-again : tie.Need-loop-preserved invariant-loop decreases-loop
+loop-again : tie.Need-loop-i-preserved invariant-loop-i decreases-loop-i
 loop-again c =
-    let a = c.before.before.before.before.args in
-    omega (arith, index-past a.s.now a.x c.before.before.before.loop.i c.before.before.loop-test.true c.if1.false)
+    let a = c.args in
+    omega (arith, index-past a.s.now a.x c.loop-i.i c.loop-i-test.true c.if-s-i.false)
 
-returns-2 : tie.Need-returns-2 invariant-loop decreases-loop
+returns-2 : tie.Need-returns invariant-loop-i decreases-loop-i
 returns-2 c =
-    let a = c.before.before.args in
-    omega (arith, index-end a.s.now a.x c.before.loop.i c.loop-test.false)
+    let a = c.args in
+    omega (arith, index-end a.s.now a.x c.loop-i.i c.loop-i-test.false)
 
-pub index-of-spec : {M : Type 1} → statement M
-index-of-spec =
+pub index_of_spec : {M : Type 1} → statement M
+index_of_spec =
     tie.close
     (tie.spec
-    invariant-loop
-    decreases-loop
+    invariant-loop-i
+    decreases-loop-i
     loop-holds
     (λ c. search rules)
     returns

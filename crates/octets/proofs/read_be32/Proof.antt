@@ -7,12 +7,11 @@ use Rattle.octets.proofs.read_be32.Tie as tie
 
 returns : tie.Need-returns
 returns c =
-    let third = c.before.before.before.before in
-    let a = third.before.before.before.before.before.args in
+    let a = c.args in
     omega (arith, be-four a.s.now a.at (omega arith))
 
-pub read-be32-spec : {M : Type 1} → statement M
-read-be32-spec =
+pub read_be32_spec : {M : Type 1} → statement M
+read_be32_spec =
     tie.close
     (tie.spec
     (λ c. search rules)

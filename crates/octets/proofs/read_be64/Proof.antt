@@ -7,11 +7,11 @@ use Rattle.octets.proofs.read_be64.Tie as tie
 
 returns : tie.Need-returns
 returns c =
-    let a = c.before.before.before.args in
-    omega (arith, be-split a.s.now a.at 4 4 (omega arith), c.before.read-be32.ensures, c.read-be322.ensures)
+    let a = c.args in
+    omega (arith, be-split a.s.now a.at 4 4 (omega arith), c.read_be32-high.ensures, c.read_be32-low.ensures)
 
-pub read-be64-spec : {M : Type 1} → statement M
-read-be64-spec =
+pub read_be64_spec : {M : Type 1} → statement M
+read_be64_spec =
     tie.close
     (tie.spec
     (λ c κs. search rules)

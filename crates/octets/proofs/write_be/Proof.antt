@@ -10,29 +10,29 @@ use Rattle.octets.proofs.BigEndian.{be-last, be-end}
 use Rattle.octets.proofs.write_be.Statement.{statement}
 use Rattle.octets.proofs.write_be.Tie as tie
 
-abbrev invariant-loop : tie.invariant-loop
-invariant-loop b₀ at n x v₀ i₀ b v i = (i ≤ n) × (sets b at (big_endian_bytes i v) ≡ sets b₀ at (big_endian_bytes n x)) × (length b ≡ length b₀)
+abbrev invariant-loop-i : tie.invariant-loop-i
+invariant-loop-i b₀ at n x v₀ i₀ b v i = (i ≤ n) × (sets b at (big_endian_bytes i v) ≡ sets b₀ at (big_endian_bytes n x)) × (length b ≡ length b₀)
 
-abbrev decreases-loop : tie.decreases-loop
-decreases-loop b₀ at n x v₀ i₀ b v i = i
+abbrev decreases-loop-i : tie.decreases-loop-i
+decreases-loop-i b₀ at n x v₀ i₀ b v i = i
 
-loop-again : tie.Need-loop-preserved invariant-loop decreases-loop
+loop-again : tie.Need-loop-i-preserved invariant-loop-i decreases-loop-i
 loop-again c =
-    let a = c.before.before.args in
-    let l = c.before.loop in
+    let a = c.args in
+    let l = c.loop-i in
     (omega arith, be-last l.b a.at l.i l.v (omega arith) ∙ l.invariant.1, simp length-set (omega arith))
 
-returns : tie.Need-returns invariant-loop decreases-loop
+returns : tie.Need-returns invariant-loop-i decreases-loop-i
 returns c =
-    let l = c.before.loop in
-    sym (be-end l.b c.before.before.args.at l.i l.v (omega arith)) ∙ l.invariant.1
+    let l = c.loop-i in
+    sym (be-end l.b c.args.at l.i l.v (omega arith)) ∙ l.invariant.1
 
-pub write-be-spec : {M : Type 1} → statement M
-write-be-spec =
+pub write_be_spec : {M : Type 1} → statement M
+write_be_spec =
     tie.close
     (tie.spec
-    invariant-loop
-    decreases-loop
+    invariant-loop-i
+    decreases-loop-i
     (λ c. search rules)
     (λ c. search rules)
     (λ c. search rules)

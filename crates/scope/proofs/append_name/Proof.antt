@@ -9,22 +9,19 @@ use Rattle.scope.proofs.append_name.Tie as tie
 
 append-requires : tie.Need-append-requires
 append-requires c κs =
-    let row = c.before.before.before in
-    rw (row-text (name_at row.before.before.args.k) row.name-at.ensures) row.before.before.requires.1
+    rw (row-text (name_at c.args.k) c.name_at-count.ensures) c.requires.1
 
 returns : tie.Need-returns
 returns c =
-    let lent = c.before.before.before in
-    let row = lent.before.before.before in
-    rw (row-text (name_at row.before.before.args.k) row.name-at.ensures) at c.before.before.append.ensures
+    rw (row-text (name_at c.args.k) c.name_at-count.ensures) at c.append.ensures
 
-pub append-name-spec : {M : Type 1} → statement M
-append-name-spec =
+pub append_name_spec : {M : Type 1} → statement M
+append_name_spec =
     tie.close
     (tie.spec
     (λ c κs. search rules)
-    (λ c. row_room _ c.before.before.name-at.ensures)
-    (λ c. sym (length-take-le _ _ (row_room _ c.before.before.before.name-at.ensures)))
+    (λ c. row_room _ c.name_at-count.ensures)
+    (λ c. sym (length-take-le _ _ (row_room _ c.name_at-count.ensures)))
     append-requires
     (λ c. search rules)
     returns)

@@ -9,15 +9,14 @@ use Rattle.scope.proofs.is_name_at.Tie as tie
 
 returns : tie.Need-returns
 returns c =
-    let row = c.before.before.before in
-    rw (row-text (name_at row.before.before.args.k) row.name-at.ensures) at c.equal.ensures
+    rw (row-text (name_at c.args.k) c.name_at-count.ensures) at c.equal.ensures
 
-pub is-name-at-spec : {M : Type 1} → statement M
-is-name-at-spec =
+pub is_name_at_spec : {M : Type 1} → statement M
+is_name_at_spec =
     tie.close
     (tie.spec
     (λ c κs. search rules)
-    (λ c. row_room _ c.before.name-at.ensures)
-    (λ c. sym (length-take-le _ _ (row_room _ c.before.before.name-at.ensures)))
+    (λ c. row_room _ c.name_at-count.ensures)
+    (λ c. sym (length-take-le _ _ (row_room _ c.name_at-count.ensures)))
     (λ c κs. search rules)
     returns)

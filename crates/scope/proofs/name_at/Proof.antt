@@ -9,7 +9,7 @@ use Rattle.scope.proofs.name_at.Tie as tie
 
 returns : tie.Need-returns
 unfolding row_of names
-returns c = map_at row_of names c.before.args.k _ [] (search rules)
+returns c = map_at row_of names c.args.k _ [] (search rules)
 
-pub name-at-spec : {M : Type 1} → statement M
-name-at-spec = tie.close (tie.spec (λ c. search rules) (λ c. search rules) returns)
+pub name_at_spec : {M : Type 1} → statement M
+name_at_spec = tie.close (tie.spec (λ c. search rules) (λ c. search rules) returns)

@@ -7,21 +7,19 @@ use Rattle.sha256.proofs.added.Tie as tie
 returns : tie.Need-returns
 unfolding added
 returns c =
-    let after-four = c.before.before.before.before in
-    let after_two = after-four.before.before in
     rw (
-      c.plus8.ensures,
-      c.before.plus7.ensures,
-      c.before.before.plus6.ensures,
-      c.before.before.before.plus5.ensures,
-      after-four.plus4.ensures,
-      after-four.before.plus3.ensures,
-      after_two.plus2.ensures,
-      after_two.before.plus.ensures,
+      c.plus-8.ensures,
+      c.plus-7.ensures,
+      c.plus-6.ensures,
+      c.plus-5.ensures,
+      c.plus-4.ensures,
+      c.plus-3.ensures,
+      c.plus-2.ensures,
+      c.plus.ensures,
     )
 
-pub added-spec : {M : Type 1} → statement M
-added-spec =
+pub added_spec : {M : Type 1} → statement M
+added_spec =
     tie.close
     (tie.spec (λ c κs. search rules) (λ c κs. search rules) (λ c κs. search rules) (λ c κs. search rules)
     (λ c κs. search rules) (λ c κs. search rules) (λ c κs. search rules) (λ c κs. search rules) returns)

@@ -6,24 +6,22 @@ use Rattle.sha256.proofs.append_padding.Statement.{statement}
 use Rattle.sha256.proofs.append_padding.Tie as tie
 
 -- the output keeps its length
-cleared-length : (c : tie.After-clear-at) → length c.clear_at.new.0 ≡ length c.before.before.before.args.out.now
+cleared-length : (c : tie.After-clear_at) → length c.clear_at.new.b ≡ length c.args.out.now
 cleared-length c = rw c.clear_at.ensures (simp (length-sets, length-set) refl)
 
-written-length : (c : tie.After-write-be) → length c.write-be.new.0 ≡ length c.before.before.before.before.before.before.before.args.out.now
-written-length c = rw c.write-be.ensures (simp length-sets (cleared-length c.before.before.before.before))
+written-length : (c : tie.After-write_be) → length c.write_be.new.b ≡ length c.args.out.now
+written-length c = rw c.write_be.ensures (simp length-sets (cleared-length c.before.before.before.before))
 
 returns : tie.Need-returns
 returns c =
-    let at-write = c.before.before in
-    let at_clear = at-write.before.before.before.before in
-    let a = at_clear.before.before.before.args in
+    let a = c.args in
     record {
-      bytes = rw (at-write.write-be.ensures, at_clear.clear_at.ensures) (padding-stores a.out.now a.at a.n);
+      bytes = rw (c.write_be.ensures, c.clear_at.ensures) (padding-stores a.out.now a.at a.n);
       end = rw (length-padding a.n) (omega arith);
     }
 
-pub append-padding-spec : {M : Type 1} → statement M
-append-padding-spec =
+pub append_padding_spec : {M : Type 1} → statement M
+append_padding_spec =
     tie.close
     (tie.spec
     (λ c. search rules)

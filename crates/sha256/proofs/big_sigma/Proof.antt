@@ -6,7 +6,7 @@ use Rattle.sha256.proofs.big_sigma.Tie as tie
 
 returns : tie.Need-returns
 unfolding big_sigma
-returns c = rw (c.before.before.rotr.ensures, c.before.rotr2.ensures, c.rotr3.ensures)
+returns c = rw (c.rotr.ensures, c.rotr-2.ensures, c.rotr-3.ensures)
 
-pub big-sigma-spec : {M : Type 1} → statement M
-big-sigma-spec = tie.close (tie.spec (λ c κs. search rules) (λ c κs. search rules) (λ c κs. search rules) returns)
+pub big_sigma_spec : {M : Type 1} → statement M
+big_sigma_spec = tie.close (tie.spec (λ c κs. search rules) (λ c κs. search rules) (λ c κs. search rules) returns)

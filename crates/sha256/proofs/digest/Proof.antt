@@ -9,13 +9,11 @@ use Rattle.sha256.proofs.digest.Tie as tie
 returns : tie.Need-returns
 unfolding initial_hash
 returns c =
-    let at_rest = c.before in
-    let at-blocks = at_rest.before.before in
-    let m = at-blocks.before.before.before.args.message.now in
-    rw (c.state-bytes.ensures, at_rest.hash-rest.ensures, at-blocks.hash-blocks.ensures, part-rest m (length m / 64 * 64)) (digest-parts m)
+    let m = c.args.message.now in
+    rw (c.state_bytes.ensures, c.hash_rest.ensures, c.hash_blocks-s.ensures, part-rest m (length m / 64 * 64)) (digest-parts m)
 
-pub digest-spec : {M : Type 1} → statement M
-digest-spec =
+pub digest_spec : {M : Type 1} → statement M
+digest_spec =
     tie.close
     (tie.spec
     (λ c. search rules)

@@ -7,18 +7,17 @@ use Rattle.sha256.proofs.first_sum.Tie as tie
 returns : tie.Need-returns
 unfolding first_sum
 returns c =
-    let at-ch = c.before.before.before in
     rw (
-      c.plus4.ensures,
-      c.before.plus3.ensures,
-      c.before.before.plus2.ensures,
-      at-ch.ch.ensures,
-      at-ch.before.plus.ensures,
-      at-ch.before.before.big-sigma1.ensures,
+      c.plus-4.ensures,
+      c.plus-3.ensures,
+      c.plus-2.ensures,
+      c.ch.ensures,
+      c.plus.ensures,
+      c.big_sigma1.ensures,
     )
 
-pub first-sum-spec : {M : Type 1} → statement M
-first-sum-spec =
+pub first_sum_spec : {M : Type 1} → statement M
+first_sum_spec =
     tie.close
     (tie.spec (λ c κs. search rules) (λ c κs. search rules) (λ c κs. search rules) (λ c κs. search rules)
     (λ c κs. search rules) (λ c κs. search rules) returns)

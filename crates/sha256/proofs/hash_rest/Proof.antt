@@ -9,30 +9,29 @@ use Rattle.sha256.proofs.hash_rest.Statement.{statement}
 use Rattle.sha256.proofs.hash_rest.Tie as tie
 
 -- the rest with the padding
-abbrev padded : tie.After-append-padding → List ℕ
-padded c = let a = c.before.before.before.before.before.before.args in a.rest.now ++ padding a.n
+abbrev padded : tie.After-append_padding-size → List ℕ
+padded c = let a = c.args in a.rest.now ++ padding a.n
 
 -- it is at most two blocks
-fits : (c : tie.After-append-padding) → length (padded c) ≤ 128
+fits : (c : tie.After-append_padding-size) → length (padded c) ≤ 128
 fits c =
-    let s = c.before.before.before.before.before.before in
-    let size = length_rest s.args.n s.args.rest.now s.requires in omega (arith, size)
+    let size = length_rest c.args.n c.args.rest.now c.requires in omega (arith, size)
 
-written : (c : tie.After-append-padding) → Appended (replicate 128 0) 0 (padded c) c.append-padding.new.0 c.append-padding.result
-written c = append-both c.before.before.before.append.ensures c.append-padding.ensures
+written : (c : tie.After-append_padding-size) → Appended (replicate 128 0) 0 (padded c) c.append_padding-size.new.out c.append_padding-size.result
+written c = append-both c.append-end.ensures c.append_padding-size.ensures
 
 -- what is hashed is that
-front : (c : tie.After-append-padding) → take c.append-padding.result c.append-padding.new.0 ≡ padded c
+front : (c : tie.After-append_padding-size) → take c.append_padding-size.result c.append_padding-size.new.out ≡ padded c
 front c = rw (append-front (written c), (written c).bytes) (part-sets-same (replicate 128 0) 0 (padded c) (omega (arith, fits c)))
 
-within : (c : tie.After-append-padding) → c.append-padding.result ≤ length c.append-padding.new.0
+within : (c : tie.After-append_padding-size) → c.append_padding-size.result ≤ length c.append_padding-size.new.out
 within c = rw (append-front (written c), append-length (written c)) (fits c)
 
 returns : tie.Need-returns
-returns c = c.hash-blocks.ensures ∙ ap (hashed_all _) (front c.before.before.before)
+returns c = c.hash_blocks.ensures ∙ ap (hashed_all _) (front c.before.before.before)
 
-pub hash-rest-spec : {M : Type 1} → statement M
-hash-rest-spec =
+pub hash_rest_spec : {M : Type 1} → statement M
+hash_rest_spec =
     tie.close
     (tie.spec
     (λ c. search rules)

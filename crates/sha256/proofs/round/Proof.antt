@@ -8,12 +8,12 @@ returns : tie.Need-returns
 unfolding round
 returns c =
     rw (
-      c.before.plus.ensures,
-      c.plus2.ensures,
-      c.before.before.second-sum.ensures,
-      c.before.before.before.first-sum.ensures,
+      c.plus.ensures,
+      c.plus-2.ensures,
+      c.second_sum-t2.ensures,
+      c.first_sum-t1.ensures,
     )
 
-pub round-spec : {M : Type 1} → statement M
-round-spec =
+pub round_spec : {M : Type 1} → statement M
+round_spec =
     tie.close (tie.spec (λ c κs. search rules) (λ c κs. search rules) (λ c κs. search rules) (λ c κs. search rules) returns)

@@ -7,16 +7,15 @@ use Rattle.sha256.proofs.schedule_word.Tie as tie
 returns : tie.Need-returns
 unfolding schedule_word
 returns c =
-    let at-plus = c.before.before.before in
     rw (
-      c.plus3.ensures,
-      c.before.plus2.ensures,
-      c.before.before.small-sigma0.ensures,
-      at-plus.plus.ensures,
-      at-plus.before.small-sigma1.ensures,
+      c.plus-3.ensures,
+      c.plus-2.ensures,
+      c.small_sigma0.ensures,
+      c.plus.ensures,
+      c.small_sigma1.ensures,
     )
 
-pub schedule-word-spec : {M : Type 1} → statement M
-schedule-word-spec =
+pub schedule_word_spec : {M : Type 1} → statement M
+schedule_word_spec =
     tie.close
     (tie.spec (λ c κs. search rules) (λ c κs. search rules) (λ c κs. search rules) (λ c κs. search rules) (λ c κs. search rules) returns)

@@ -6,7 +6,7 @@ use Rattle.sha256.proofs.second_sum.Tie as tie
 
 returns : tie.Need-returns
 unfolding second_sum
-returns c = rw (c.plus.ensures, c.before.before.big-sigma0.ensures, c.before.maj.ensures)
+returns c = rw (c.plus.ensures, c.big_sigma0.ensures, c.maj.ensures)
 
-pub second-sum-spec : {M : Type 1} → statement M
-second-sum-spec = tie.close (tie.spec (λ c κs. search rules) (λ c κs. search rules) (λ c κs. search rules) returns)
+pub second_sum_spec : {M : Type 1} → statement M
+second_sum_spec = tie.close (tie.spec (λ c κs. search rules) (λ c κs. search rules) (λ c κs. search rules) returns)

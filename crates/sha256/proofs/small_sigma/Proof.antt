@@ -6,7 +6,7 @@ use Rattle.sha256.proofs.small_sigma.Tie as tie
 
 returns : tie.Need-returns
 unfolding small_sigma
-returns c = rw (c.before.rotr.ensures, c.rotr2.ensures)
+returns c = rw (c.rotr.ensures, c.rotr-2.ensures)
 
-pub small-sigma-spec : {M : Type 1} → statement M
-small-sigma-spec = tie.close (tie.spec (λ c κs. search rules) (λ c κs. search rules) (λ c. search rules) returns)
+pub small_sigma_spec : {M : Type 1} → statement M
+small_sigma_spec = tie.close (tie.spec (λ c κs. search rules) (λ c κs. search rules) (λ c. search rules) returns)

@@ -8,22 +8,19 @@ use Rattle.form.proofs.Steps.{found_within, step-piece, step_end}
 use Rattle.form.proofs.Cursor.next.Statement.{statement}
 use Rattle.form.proofs.Cursor.next.Tie as tie
 
-abbrev start : tie.After-index-of → tie.Start
-start c = c.before.before.before.before
-
 -- the piece ends within the form
-fits : (c : tie.After-index-of) → (start c).args.self.at + c.index_of.result ≤ length (start c).args.s.now
+fits : (c : tie.After-index_of) → c.args.self.at + c.index_of.result ≤ length c.args.s.now
 fits c =
-    let a = (start c).args in
-    found_within a.s.now a.self.at c.index_of.result c.index_of.ensures c.before.before.if1.true
+    let a = c.args in
+    found_within a.s.now a.self.at c.index_of.result c.index_of.ensures c.if-at-s.true
 
-returns : tie.Need-returns
+returns : tie.Need-returns-then-at-s
 returns c =
-    let a = (start c).args in
-    sym (step-piece a.s.now a.self.at c.index_of.result c.index_of.ensures c.before.before.if1.true)
+    let a = c.args in
+    sym (step-piece a.s.now a.self.at c.index_of.result c.index_of.ensures c.if-at-s.true)
 
-pub next-spec : {M : Type 1} → statement M
-next-spec =
+pub next_spec : {M : Type 1} → statement M
+next_spec =
     tie.close
     (tie.spec
     (λ c. search rules)
@@ -33,4 +30,4 @@ next-spec =
     (λ c. omega (arith, fits c))
     (λ c. omega (arith, fits c))
     returns
-    (λ c. let a = c.before.before.args in sym (step_end a.s.now a.self.at c.if1.false)))
+    (λ c. let a = c.args in sym (step_end a.s.now a.self.at c.if-at-s.false)))

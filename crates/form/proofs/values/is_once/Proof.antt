@@ -5,9 +5,9 @@ use Rattle.form.specs.Places.{view_as}
 use Rattle.form.proofs.values.is_once.Statement.{statement}
 use Rattle.form.proofs.values.is_once.Tie as tie
 
-pub is-once-spec : {M : Type 1} → statement M
+pub is_once_spec : {M : Type 1} → statement M
 unfolding is_once view_as
-is-once-spec =
+is_once_spec =
     tie.close
     (tie.spec
     (λ c. search rules)
@@ -17,6 +17,6 @@ is-once-spec =
     (λ c. search rules)
     (λ c κs. search rules)
     (λ c. search rules)
-    (λ c. rw c.enum_told.given.1)
-    (λ c. rw c.before.before.enum-told2.given.1 c.value-equals.ensures)
-    (λ c. rw c.enum-told3.given.1))
+    (λ c. rw c.in-Missing.is)
+    (λ c. rw c.in-Once.is c.value_equals.ensures)
+    (λ c. rw c.in-Repeated.is))

@@ -5,14 +5,14 @@ use Rattle.form.specs.Places.{view_as}
 use Rattle.form.proofs.values.is_repeated.Statement.{statement}
 use Rattle.form.proofs.values.is_repeated.Tie as tie
 
-pub is-repeated-spec : {M : Type 1} → statement M
+pub is_repeated_spec : {M : Type 1} → statement M
 unfolding is_repeated view_as
-is-repeated-spec =
+is_repeated_spec =
     tie.close
     (tie.spec
     (λ c. search rules)
     (λ c. search rules)
     (λ c. search rules)
-    (λ c. rw c.enum_told.given.1)
-    (λ c. rw c.enum-told2.given.1)
-    (λ c. rw c.enum-told3.given.1))
+    (λ c. rw c.in-Missing.is)
+    (λ c. rw c.in-Once.is)
+    (λ c. rw c.in-Repeated.is))

@@ -10,26 +10,25 @@ use Rattle.form_coding.proofs.stretches.copy_long.Statement.{statement}
 use Rattle.form_coding.proofs.stretches.copy_long.Tie as tie
 
 -- the stretch lies within the text
-found : (c : tie.After-stretch-length)
-    → length (take c.stretch-length.result c.before.before.before.args.s.now) ≡ c.stretch-length.result
+found : (c : tie.After-stretch_length-n)
+    → length (take c.stretch_length-n.result c.args.s.now) ≡ c.stretch_length-n.result
 found c =
-    let s = c.before.before.before.args.s.now in
-    length-take-le c.stretch-length.result s (omega (arith, index-le is_mark s, c.stretch-length.ensures))
+    let s = c.args.s.now in
+    length-take-le c.stretch_length-n.result s (omega (arith, index-le is_mark s, c.stretch_length-n.ensures))
 
-copy-at-requires : tie.Need-copy-at-requires
-copy-at-requires c κs = omega (arith, found c.before.before, index-le is_mark c.before.before.before.before.before.args.s.now, c.before.before.stretch-length.ensures)
+copy-at-requires : tie.Need-copy_at-requires
+copy-at-requires c κs = omega (arith, found c.before, index-le is_mark c.args.s.now, c.stretch_length-n.ensures)
 
 returns : tie.Need-returns
 returns c =
-    let find = c.before.before.before.before.before in
-    (find.stretch-length.ensures, record { bytes = c.before.before.copy_at.ensures; end = omega (arith, found find) })
+    (c.stretch_length-n.ensures, record { bytes = c.copy_at.ensures; end = omega (arith, found c.before.before.before.before) })
 
-pub copy-long-spec : {M : Type 1} → statement M
-copy-long-spec =
+pub copy_long_spec : {M : Type 1} → statement M
+copy_long_spec =
     tie.close
     (tie.spec
     (λ c κs. search rules)
-    (λ c. sym (found c.before.before))
+    (λ c. sym (found c.before))
     copy-at-requires
     (λ c. search rules)
     returns)

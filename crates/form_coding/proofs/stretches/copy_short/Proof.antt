@@ -13,49 +13,47 @@ use Rattle.form_coding.proofs.Turns.{copy_more}
 use Rattle.form_coding.proofs.stretches.copy_short.Statement.{statement}
 use Rattle.form_coding.proofs.stretches.copy_short.Tie as tie
 
-abbrev invariant-loop : tie.invariant-loop
-invariant-loop s out₀ at i₀ out i = (i ≤ length s) × (i ≤ stretch s) × (length out ≡ length out₀) × Appended out₀ at (take i s) out (at + i)
+abbrev invariant-loop-i : tie.invariant-loop-i
+invariant-loop-i s out₀ at i₀ out i = (i ≤ length s) × (i ≤ stretch s) × (length out ≡ length out₀) × Appended out₀ at (take i s) out (at + i)
 
-abbrev decreases-loop : tie.decreases-loop
-decreases-loop s out₀ at i₀ out i = length s - i
+abbrev decreases-loop-i : tie.decreases-loop-i
+decreases-loop-i s out₀ at i₀ out i = length s - i
 
-loop-holds : tie.Need-loop-init invariant-loop decreases-loop
+loop-holds : tie.Need-loop-i-init invariant-loop-i decreases-loop-i
 loop-holds c =
-    let a = c.before.before.args in
+    let a = c.args in
     (search rules, search rules, refl, rw add-zero (append-nothing a.out.now a.at))
 
-returns : tie.Need-returns invariant-loop decreases-loop
+returns : tie.Need-returns-then-is_mark invariant-loop-i decreases-loop-i
 returns c =
-    let head = c.before.before.before.before in
-    let a = head.before.before.before.args in
-    let l = head.loop in
-    let marked = sym c.before.is-mark.ensures ∙ c.if1.true in
-    (sym (scan-stop is_mark 0 a.s.now l.i c.before.before.before.loop-test.true l.invariant.1 marked), l.invariant.3)
+    let a = c.args in
+    let l = c.loop-i in
+    let marked = sym c.is_mark.ensures ∙ c.if-is_mark.true in
+    (sym (scan-stop is_mark 0 a.s.now l.i c.loop-i-test.true l.invariant.1 marked), l.invariant.3)
 
-loop-again : tie.Need-loop-preserved invariant-loop decreases-loop
+loop-again : tie.Need-loop-i-preserved invariant-loop-i decreases-loop-i
 loop-again c =
-    let head = c.before.before.before.before in
-    let a = head.before.before.before.args in
-    let l = head.loop in
-    let within = c.before.before.before.loop-test.true in
-    let plain = sym c.before.is-mark.ensures ∙ c.if1.false in (
+    let a = c.args in
+    let l = c.loop-i in
+    let within = c.loop-i-test.true in
+    let plain = sym c.is_mark.ensures ∙ c.if-is_mark.false in (
       search rules,
       scan-next is_mark 0 a.s.now l.i within l.invariant.1 plain,
       simp length-set l.invariant.2,
       copy_more a.out.now a.at a.s.now l.out l.i within l.invariant.3,
     )
 
-returns-2 : tie.Need-returns-2 invariant-loop decreases-loop
+returns-2 : tie.Need-returns invariant-loop-i decreases-loop-i
 returns-2 c =
-    let l = c.before.loop in
-    (omega (arith, index-le is_mark c.before.before.before.before.args.s.now), l.invariant.3)
+    let l = c.loop-i in
+    (omega (arith, index-le is_mark c.args.s.now), l.invariant.3)
 
-pub copy-short-spec : {M : Type 1} → statement M
-copy-short-spec =
+pub copy_short_spec : {M : Type 1} → statement M
+copy_short_spec =
     tie.close
     (tie.spec
-    invariant-loop
-    decreases-loop
+    invariant-loop-i
+    decreases-loop-i
     loop-holds
     (λ c. search rules)
     (λ c κs. search rules)

@@ -9,40 +9,38 @@ use Rattle.form_coding.specs.Turns.{is_mark, stretch}
 use Rattle.form_coding.proofs.stretches.stretch_length.Statement.{statement}
 use Rattle.form_coding.proofs.stretches.stretch_length.Tie as tie
 
-abbrev invariant-loop : tie.invariant-loop
-invariant-loop s i₀ i = (i ≤ length s) × (i ≤ stretch s)
+abbrev invariant-loop-i : tie.invariant-loop-i
+invariant-loop-i s i₀ i = (i ≤ length s) × (i ≤ stretch s)
 
-abbrev decreases-loop : tie.decreases-loop
-decreases-loop s i₀ i = length s - i
+abbrev decreases-loop-i : tie.decreases-loop-i
+decreases-loop-i s i₀ i = length s - i
 
-loop-holds : tie.Need-loop-init invariant-loop decreases-loop
-loop-holds c = let b = c.plain-blocks.ensures in (omega (arith, index-le is_mark c.before.before.args.s.now), b)
+loop-holds : tie.Need-loop-i-init invariant-loop-i decreases-loop-i
+loop-holds c = let b = c.plain_blocks-i.ensures in (omega (arith, index-le is_mark c.args.s.now), b)
 
-returns : tie.Need-returns invariant-loop decreases-loop
+returns : tie.Need-returns-then-is_mark invariant-loop-i decreases-loop-i
 returns c =
-    let head = c.before.before.before.before in
-    let l = head.loop in
-    let s = head.before.before.before.args.s.now in
-    let marked = sym c.before.is-mark.ensures ∙ c.if1.true in
-    sym (scan-stop is_mark 0 s l.i c.before.before.before.loop-test.true l.invariant.1 marked)
+    let l = c.loop-i in
+    let s = c.args.s.now in
+    let marked = sym c.is_mark.ensures ∙ c.if-is_mark.true in
+    sym (scan-stop is_mark 0 s l.i c.loop-i-test.true l.invariant.1 marked)
 
-loop-again : tie.Need-loop-preserved invariant-loop decreases-loop
+loop-again : tie.Need-loop-i-preserved invariant-loop-i decreases-loop-i
 loop-again c =
-    let head = c.before.before.before.before in
-    let l = head.loop in
-    let s = head.before.before.before.args.s.now in
-    let plain = sym c.before.is-mark.ensures ∙ c.if1.false in
-    (search rules, scan-next is_mark 0 s l.i c.before.before.before.loop-test.true l.invariant.1 plain)
+    let l = c.loop-i in
+    let s = c.args.s.now in
+    let plain = sym c.is_mark.ensures ∙ c.if-is_mark.false in
+    (search rules, scan-next is_mark 0 s l.i c.loop-i-test.true l.invariant.1 plain)
 
-returns-2 : tie.Need-returns-2 invariant-loop decreases-loop
-returns-2 c = omega (arith, index-le is_mark c.before.before.before.before.args.s.now)
+returns-2 : tie.Need-returns invariant-loop-i decreases-loop-i
+returns-2 c = omega (arith, index-le is_mark c.args.s.now)
 
-pub stretch-length-spec : {M : Type 1} → statement M
-stretch-length-spec =
+pub stretch_length_spec : {M : Type 1} → statement M
+stretch_length_spec =
     tie.close
     (tie.spec
-    invariant-loop
-    decreases-loop
+    invariant-loop-i
+    decreases-loop-i
     (λ c κs. search rules)
     loop-holds
     (λ c. search rules)

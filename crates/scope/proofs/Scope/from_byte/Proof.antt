@@ -6,7 +6,7 @@ use Rattle.scope.proofs.Scope.from_byte.Statement.{statement}
 use Rattle.scope.proofs.Scope.from_byte.Tie as tie
 
 returns : tie.Need-returns
-returns c = c.meet.ensures ∙ meet-full c.before.args.b (search rules)
+returns c = c.meet.ensures ∙ meet-full c.args.b (search rules)
 
-pub from-byte-spec : {M : Type 1} → statement M
-from-byte-spec = tie.close (tie.spec (λ c κs. search rules) returns)
+pub from_byte_spec : {M : Type 1} → statement M
+from_byte_spec = tie.close (tie.spec (λ c κs. search rules) returns)

@@ -11,8 +11,8 @@ use Rattle.token_store.proofs.Slot.origin.Tie as tie
 size : (c : tie.Start) → length c.args.self.link ≡ link_size
 size c = search rules
 
-handle-at-requires : tie.Need-handle-at-requires
+handle-at-requires : tie.Need-handle_at-requires
 handle-at-requires c κs = omega (arith, size c.before.before)
 
-pub origin-spec : {M : Type 1} → statement M
-origin-spec = tie.close (tie.spec (λ c. search rules) handle-at-requires (λ c. search rules))
+pub origin_spec : {M : Type 1} → statement M
+origin_spec = tie.close (tie.spec (λ c. search rules) handle-at-requires (λ c. search rules))

@@ -8,9 +8,8 @@ use Rattle.token_store.proofs.fields.expiry_of.Tie as tie
 
 returns : tie.Need-returns
 returns c =
-    let s = c.before.before.before in
-    c.read-be64.ensures
-    ∙ rw c.before.slot-start.ensures (sym (ap (λ (x : Slot). x.expiry) (slot_read s.args.store.now s.args.i s.requires.0 s.requires.1)))
+    c.read_be64.ensures
+    ∙ rw c.slot_start.ensures (sym (ap (λ (x : Slot). x.expiry) (slot_read c.args.store.now c.args.i c.requires.0 c.requires.1)))
 
-pub expiry-of-spec : {M : Type 1} → statement M
-expiry-of-spec = tie.close (tie.spec (λ c κs. search rules) (λ c. search rules) (λ c κs. search rules) returns)
+pub expiry_of_spec : {M : Type 1} → statement M
+expiry_of_spec = tie.close (tie.spec (λ c κs. search rules) (λ c. search rules) (λ c κs. search rules) returns)

@@ -13,14 +13,13 @@ use Rattle.token_store.proofs.fields.handle_at.Tie as tie
 
 returns : tie.Need-returns
 returns c =
-    let s = c.before.before.before.before.before in
-    let at = s.args.at in
-    let b = s.args.b.now in
+    let at = c.args.at in
+    let b = c.args.b.now in
     let size : at + handle_size - at ≡ handle_size = omega arith in
-    c.before.copy_at.ensures ∙ rw size (sets-all (replicate handle_size 0) (part b at handle_size) (length_part b at handle_size (search rules)))
+    c.copy_at.ensures ∙ rw size (sets-all (replicate handle_size 0) (part b at handle_size) (length_part b at handle_size (search rules)))
 
-pub handle-at-spec : {M : Type 1} → statement M
-handle-at-spec =
+pub handle_at_spec : {M : Type 1} → statement M
+handle_at_spec =
     tie.close
     (tie.spec (λ c. search rules) (λ c. search rules) (λ c. search rules) (λ c. search rules) (λ c. search rules)
     (λ c κs. search rules) returns)

@@ -12,15 +12,14 @@ use Rattle.token_store.proofs.fields.has_handle.Tie as tie
 
 returns : tie.Need-returns
 returns c =
-    let s = c.before.before.before.before.before in
-    let at : ℕ = c.before.before.slot-start.result + at_handle in
+    let at : ℕ = c.slot_start-at.result + at_handle in
     let n : at + handle_size - at ≡ handle_size = omega arith in
     c.equal.ensures
-    ∙ rw (n, c.before.before.slot-start.ensures)
-    (sym (ap (λ (x : Slot). same s.args.handle.now x.handle) (slot_read s.args.store.now s.args.i s.requires.0 s.requires.1)))
+    ∙ rw (n, c.slot_start-at.ensures)
+    (sym (ap (λ (x : Slot). same c.args.handle.now x.handle) (slot_read c.args.store.now c.args.i c.requires.0 c.requires.1)))
 
-pub has-handle-spec : {M : Type 1} → statement M
-has-handle-spec =
+pub has_handle_spec : {M : Type 1} → statement M
+has_handle_spec =
     tie.close
     (tie.spec (λ c κs. search rules) (λ c. search rules) (λ c. search rules) (λ c. search rules) (λ c. search rules)
     (λ c. search rules) (λ c κs. search rules) returns)

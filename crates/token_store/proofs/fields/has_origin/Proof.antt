@@ -12,15 +12,13 @@ use Rattle.token_store.proofs.fields.has_origin.Tie as tie
 
 returns : tie.Need-returns
 returns c =
-    let started = c.before.before in
-    let s = c.before.before.before.before.before in
-    let at : ℕ = started.slot-start.result + at_link in
+    let at : ℕ = c.slot_start-at.result + at_link in
     let n : at + handle_size - at ≡ handle_size = omega arith in
-    let link = ap (λ (x : Slot). x.link) (slot_read s.args.store.now s.args.i s.requires.0 s.requires.1) in
-    c.equal.ensures ∙ rw (n, started.slot-start.ensures, link, take-take handle_size link_size _ (omega arith))
+    let link = ap (λ (x : Slot). x.link) (slot_read c.args.store.now c.args.i c.requires.0 c.requires.1) in
+    c.equal.ensures ∙ rw (n, c.slot_start-at.ensures, link, take-take handle_size link_size _ (omega arith))
 
-pub has-origin-spec : {M : Type 1} → statement M
-has-origin-spec =
+pub has_origin_spec : {M : Type 1} → statement M
+has_origin_spec =
     tie.close
     (tie.spec (λ c κs. search rules) (λ c. search rules) (λ c. search rules) (λ c. search rules) (λ c. search rules)
     (λ c. search rules) (λ c κs. search rules) returns)

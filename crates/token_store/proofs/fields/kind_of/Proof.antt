@@ -8,8 +8,7 @@ use Rattle.token_store.proofs.fields.kind_of.Tie as tie
 
 returns : tie.Need-returns
 returns c =
-    let s = c.before.before.before in
-    rw c.before.slot-start.ensures (sym (ap (λ (x : Slot). x.kind) (slot_read s.args.store.now s.args.i s.requires.0 s.requires.1)))
+    rw c.slot_start.ensures (sym (ap (λ (x : Slot). x.kind) (slot_read c.args.store.now c.args.i c.requires.0 c.requires.1)))
 
-pub kind-of-spec : {M : Type 1} → statement M
-kind-of-spec = tie.close (tie.spec (λ c κs. search rules) (λ c. search rules) returns)
+pub kind_of_spec : {M : Type 1} → statement M
+kind_of_spec = tie.close (tie.spec (λ c κs. search rules) (λ c. search rules) returns)

@@ -13,14 +13,13 @@ use Rattle.token_store.proofs.fields.link_at.Tie as tie
 
 returns : tie.Need-returns
 returns c =
-    let s = c.before.before.before.before.before in
-    let at = s.args.at in
-    let b = s.args.b.now in
+    let at = c.args.at in
+    let b = c.args.b.now in
     let size : at + link_size - at ≡ link_size = omega arith in
-    c.before.copy_at.ensures ∙ rw size (sets-all (replicate link_size 0) (part b at link_size) (length_part b at link_size (search rules)))
+    c.copy_at.ensures ∙ rw size (sets-all (replicate link_size 0) (part b at link_size) (length_part b at link_size (search rules)))
 
-pub link-at-spec : {M : Type 1} → statement M
-link-at-spec =
+pub link_at_spec : {M : Type 1} → statement M
+link_at_spec =
     tie.close
     (tie.spec (λ c. search rules) (λ c. search rules) (λ c. search rules) (λ c. search rules) (λ c. search rules)
     (λ c κs. search rules) returns)

@@ -13,13 +13,11 @@ use Rattle.token_store.proofs.fields.link_to.Tie as tie
 
 returns : tie.Need-returns
 returns c =
-    let copied = c.before in
-    let s = copied.before.before.before in
-    let origin : List ℕ = s.args.origin in
+    let origin : List ℕ = c.args.origin in
     let size : length origin ≡ handle_size = search rules in
-    copied.copy_at.ensures
+    c.copy_at.ensures
     ∙ sets-eq origin (replicate link_size 0) 0 (omega (arith, size))
     ∙ ap (λ (n : ℕ). origin ++ drop n (replicate link_size 0)) (zero-add (length origin) ∙ size)
 
-pub link-to-spec : {M : Type 1} → statement M
-link-to-spec = tie.close (tie.spec (λ c. search rules) (λ c. search rules) (λ c κs. search rules) returns)
+pub link_to_spec : {M : Type 1} → statement M
+link_to_spec = tie.close (tie.spec (λ c. search rules) (λ c. search rules) (λ c κs. search rules) returns)

@@ -19,71 +19,61 @@ use Rattle.token_store.proofs.fitness.fit.Tie as tie
 abbrev unfit : ℕ → Slot → Bool
 unfit clients s = not (fit_slot clients s)
 
-abbrev invariant-loop : tie.invariant-loop
-invariant-loop store clients i₀ i = Scanned (unfit clients) store i
+abbrev invariant-loop-i : tie.invariant-loop-i
+invariant-loop-i store clients i₀ i = Scanned (unfit clients) store i
 
-abbrev decreases-loop : tie.decreases-loop
-decreases-loop store clients i₀ i = slot_count - i
+abbrev decreases-loop-i : tie.decreases-loop-i
+decreases-loop-i store clients i₀ i = slot_count - i
 
-abbrev start : tie.At-loop invariant-loop decreases-loop → tie.Start invariant-loop decreases-loop
-start l = l.before.before.before.before.before
-
-returns : tie.Need-returns invariant-loop decreases-loop
+returns : tie.Need-returns-then-store-ne-STORE_SIZE invariant-loop-i decreases-loop-i
 returns c =
-    let a = c.before.before.args in
-    sym (unfit-size a.clients a.store.now c.if1.true)
+    let a = c.args in
+    sym (unfit-size a.clients a.store.now c.if-store-ne-STORE_SIZE.true)
 
-returns-2 : tie.Need-returns-2 invariant-loop decreases-loop
+returns-2 : tie.Need-returns-then-time_of-gt-LATEST_TIME invariant-loop-i decreases-loop-i
 returns-2 c =
-    let a = c.before.before.before.before.args in
+    let a = c.args in
     sym (unfit-time a.clients a.store.now (omega arith))
 
 -- past the first two tests the slots decide
-rest : (l : tie.At-loop invariant-loop decreases-loop) → let a = (start l).args in
+rest : (l : tie.At-loop-i invariant-loop-i decreases-loop-i) → let a = l.args in
     every (fit_slot a.clients) (decode a.store.now).slots ≡ fit_store a.clients a.store.now
-rest l = let a = (start l).args in sym (fit-rest a.clients a.store.now (omega arith) (omega arith))
-
-abbrev turn : tie.After-fit-slot invariant-loop decreases-loop → tie.At-loop invariant-loop decreases-loop
-turn c = c.before.before.before.before
+rest l = let a = l.args in sym (fit-rest a.clients a.store.now (omega arith) (omega arith))
 
 -- the slot of a turn, by its bytes
-judged : (c : tie.After-fit-slot invariant-loop decreases-loop) → let a = (start (turn c)).args in
-    fit_slot a.clients (slot_of (decode a.store.now) (turn c).loop.i) ≡ c.fit-slot.result
+judged : (c : tie.After-fit_slot invariant-loop-i decreases-loop-i) → let a = c.args in
+    fit_slot a.clients (slot_of (decode a.store.now) c.loop-i.i) ≡ c.fit_slot.result
 judged c =
-    let l = c.before.before.before.before in
-    let a = l.before.before.before.before.before.args in
-    let at : ℕ = c.before.before.slot-start.result in
+    let a = c.args in
+    let at : ℕ = c.slot_start-at.result in
     let n : at + slot_size - at ≡ slot_size = omega arith in
-    let e : c.fit-slot.result ≡ fit_slot a.clients (slot_of (decode a.store.now) l.loop.i) =
-    c.fit-slot.ensures
-    ∙ rw (n, c.before.before.slot-start.ensures) (ap (fit_slot a.clients) (sym (slot_at a.store.now l.loop.i (omega arith))))
+    let e : c.fit_slot.result ≡ fit_slot a.clients (slot_of (decode a.store.now) c.loop-i.i) =
+    c.fit_slot.ensures
+    ∙ rw (n, c.slot_start-at.ensures) (ap (fit_slot a.clients) (sym (slot_at a.store.now c.loop-i.i (omega arith))))
     in
     sym e
 
-returns-3 : tie.Need-returns-3 invariant-loop decreases-loop
+returns-3 : tie.Need-returns-then-not-fit_slot invariant-loop-i decreases-loop-i
 returns-3 c =
-    let l = turn c.before in
-    let a = (start l).args in
-    slot-stop (unfit a.clients) a.store.now l.loop.i l.loop.inv (λ i. false) true (omega arith)
-    (ap not (judged c.before) ∙ c.if3.true)
-    ∙ every-answer (fit_slot a.clients) a.store.now ∙ rest l
+    let a = c.args in
+    slot-stop (unfit a.clients) a.store.now c.loop-i.i c.loop-i.invariant (λ i. false) true (omega arith)
+    (ap not (judged c.before) ∙ c.if-not-fit_slot.true-raw)
+    ∙ every-answer (fit_slot a.clients) a.store.now ∙ rest c.before.before.before.before.before
 
-loop-again : tie.Need-loop-preserved invariant-loop decreases-loop
+loop-again : tie.Need-loop-i-preserved invariant-loop-i decreases-loop-i
 loop-again c =
-    let l = turn c.before in
-    let a = (start l).args in
-    slot_next (unfit a.clients) a.store.now l.loop.i l.loop.inv (omega arith) (ap not (judged c.before) ∙ c.if3.false)
+    let a = c.args in
+    slot_next (unfit a.clients) a.store.now c.loop-i.i c.loop-i.invariant (omega arith) (ap not (judged c.before) ∙ c.if-not-fit_slot.false-raw)
 
-returns-4 : tie.Need-returns-4 invariant-loop decreases-loop
+returns-4 : tie.Need-returns invariant-loop-i decreases-loop-i
 returns-4 c =
-    let l = c.before in
-    let a = (start l).args in
-    slot-end (unfit a.clients) a.store.now l.loop.i l.loop.invariant (λ i. false) true (omega arith)
-    ∙ every-answer (fit_slot a.clients) a.store.now ∙ rest l
+    let a = c.args in
+    slot-end (unfit a.clients) a.store.now c.loop-i.i c.loop-i.invariant (λ i. false) true (omega arith)
+    ∙ every-answer (fit_slot a.clients) a.store.now ∙ rest c.before
 
 pub fit_spec : {M : Type 1} → statement M
 fit_spec =
     tie.close
-    (tie.spec invariant-loop decreases-loop returns (λ c κs. search rules) returns-2 (λ c. search rules) (λ c κs. search rules)
+    (tie.spec invariant-loop-i decreases-loop-i returns (λ c κs. search rules) returns-2 (λ c. search rules) (λ c κs. search rules)
     (λ c. search rules) (λ c. search rules) (λ c. search rules) (λ c. search rules) (λ c κs. search rules) returns-3
     (λ c. search rules) (λ c. search rules) loop-again returns-4)

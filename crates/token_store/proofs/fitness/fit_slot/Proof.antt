@@ -5,20 +5,16 @@ use Rattle.token_store.proofs.Fits.{fit-zero, fit-in-use-bytes}
 use Rattle.token_store.proofs.fitness.fit_slot.Statement.{statement}
 use Rattle.token_store.proofs.fitness.fit_slot.Tie as tie
 
-returns : tie.Need-returns
+returns : tie.Need-returns-then-kind-eq-KIND_FREE
 returns c =
-    let known = c.before.before.before in
-    let s = known.before in
-    c.all-zero.ensures
-    ∙ fit-zero s.args.clients s.args.slot.now s.requires (λ k. (known.shared-slice-known.given k).fits) c.before.if1.true
+    c.all_zero.ensures
+    ∙ fit-zero c.args.clients c.args.slot.now c.requires (λ k. (c.shared_slice_known-1.given k).fits) c.if-kind-eq-KIND_FREE.true
 
-returns-2 : tie.Need-returns-2
+returns-2 : tie.Need-returns
 returns-2 c =
-    let used = c.before.before.before in
-    let s = used.before.before.before in
-    rw c.fit-link.ensures (fit-in-use-bytes s.args.clients s.args.slot.now s.requires used.if1.false)
+    rw c.fit_link.ensures (fit-in-use-bytes c.args.clients c.args.slot.now c.requires c.if-kind-eq-KIND_FREE.false)
 
-pub fit-slot-spec : {M : Type 1} → statement M
-fit-slot-spec =
+pub fit_slot_spec : {M : Type 1} → statement M
+fit_slot_spec =
     tie.close
     (tie.spec (λ c. search rules) (λ c κs. search rules) returns (λ c. search rules) (λ c. search rules) (λ c κs. search rules) returns-2)

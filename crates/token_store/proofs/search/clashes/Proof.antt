@@ -11,39 +11,33 @@ use Rattle.token_store.proofs.Scans.{Scanned, slot_next, slot-stop, slot-end, an
 use Rattle.token_store.proofs.search.clashes.Statement.{statement}
 use Rattle.token_store.proofs.search.clashes.Tie as tie
 
-abbrev invariant-loop : tie.invariant-loop
-invariant-loop store handle i₀ i = Scanned (holds handle) store i
+abbrev invariant-loop-i : tie.invariant-loop-i
+invariant-loop-i store handle i₀ i = Scanned (holds handle) store i
 
-abbrev decreases-loop : tie.decreases-loop
-decreases-loop store handle i₀ i = slot_count - i
+abbrev decreases-loop-i : tie.decreases-loop-i
+decreases-loop-i store handle i₀ i = slot_count - i
 
-abbrev start : tie.At-loop invariant-loop decreases-loop → tie.Start invariant-loop decreases-loop
-start l = l.before.before.before
-
-abbrev test : tie.Start invariant-loop decreases-loop → Slot → Bool
+abbrev test : tie.Start invariant-loop-i decreases-loop-i → Slot → Bool
 test s = holds s.args.handle.now
 
-returns : tie.Need-returns invariant-loop decreases-loop
+returns : tie.Need-returns-then-holds_handle invariant-loop-i decreases-loop-i
 returns c =
-    let l = c.before.before.before in
-    slot-stop (test (start l)) (start l).args.store.now l.loop.i l.loop.invariant (λ i. true) false (omega arith)
-    (sym c.before.holds-handle.ensures ∙ c.if1.true)
-    ∙ any-answer (test (start l)) (start l).args.store.now
+    slot-stop (test c.before.before.before.before.before.before) c.args.store.now c.loop-i.i c.loop-i.invariant (λ i. true) false (omega arith)
+    (sym c.holds_handle.ensures ∙ c.if-holds_handle.true)
+    ∙ any-answer (test c.before.before.before.before.before.before) c.args.store.now
 
-loop-again : tie.Need-loop-preserved invariant-loop decreases-loop
+loop-again : tie.Need-loop-i-preserved invariant-loop-i decreases-loop-i
 loop-again c =
-    let l = c.before.before.before in
-    slot_next (test (start l)) (start l).args.store.now l.loop.i l.loop.invariant (omega arith)
-    (sym c.before.holds-handle.ensures ∙ c.if1.false)
+    slot_next (test c.before.before.before.before.before.before) c.args.store.now c.loop-i.i c.loop-i.invariant (omega arith)
+    (sym c.holds_handle.ensures ∙ c.if-holds_handle.false)
 
-returns-2 : tie.Need-returns-2 invariant-loop decreases-loop
+returns-2 : tie.Need-returns invariant-loop-i decreases-loop-i
 returns-2 c =
-    let l = c.before in
-    slot-end (test (start l)) (start l).args.store.now l.loop.i l.loop.invariant (λ i. true) false (omega arith)
-    ∙ any-answer (test (start l)) (start l).args.store.now
+    slot-end (test c.before.before.before.before) c.args.store.now c.loop-i.i c.loop-i.invariant (λ i. true) false (omega arith)
+    ∙ any-answer (test c.before.before.before.before) c.args.store.now
 
-pub clashes-spec : {M : Type 1} → statement M
-clashes-spec =
+pub clashes_spec : {M : Type 1} → statement M
+clashes_spec =
     tie.close
-    (tie.spec invariant-loop decreases-loop (λ c. search rules) (λ c κs. search rules) returns (λ c. search rules) (λ c. search rules)
+    (tie.spec invariant-loop-i decreases-loop-i (λ c. search rules) (λ c κs. search rules) returns (λ c. search rules) (λ c. search rules)
     loop-again returns-2)

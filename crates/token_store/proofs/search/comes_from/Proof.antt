@@ -7,27 +7,23 @@ use Rattle.token_store.specs.Store.{decode, slot_of, is_sought}
 use Rattle.token_store.proofs.search.comes_from.Statement.{statement}
 use Rattle.token_store.proofs.search.comes_from.Tie as tie
 
-abbrev start : tie.After-is-sought → tie.Start
-start c = c.before.before.before
-
-returns : tie.Need-returns
+returns : tie.Need-returns-then-not-is_sought
 returns c =
-    let a = (start c.before).args in
+    let a = c.args in
     let e : is_sought a.sought (slot_of (decode a.store.now) a.i) ≡ false =
-    sym c.before.is-sought.ensures ∙ not-true _ c.if1.true
+    sym c.is_sought.ensures ∙ not-true _ c.if-not-is_sought.true-raw
     in
     rw e
 
-returns-2 : tie.Need-returns-2
+returns-2 : tie.Need-returns
 returns-2 c =
-    let tested = c.before in
-    let a = (start tested.before).args in
+    let a = c.args in
     let e : is_sought a.sought (slot_of (decode a.store.now) a.i) ≡ true =
-    sym tested.before.is-sought.ensures ∙ not-false _ tested.if1.false
+    sym c.is_sought.ensures ∙ not-false _ c.if-not-is_sought.false-raw
     in
-    rw (e, c.has-origin.ensures)
+    rw (e, c.has_origin.ensures)
 
-pub comes-from-spec : {M : Type 1} → statement M
-comes-from-spec =
+pub comes_from_spec : {M : Type 1} → statement M
+comes_from_spec =
     tie.close
     (tie.spec (λ c κs. search rules) returns (λ c κs. search rules) returns-2)

@@ -12,37 +12,31 @@ use Rattle.token_store.proofs.Scans.{Scanned, slot_next, slot-stop, slot-end}
 use Rattle.token_store.proofs.search.find.Statement.{statement}
 use Rattle.token_store.proofs.search.find.Tie as tie
 
-abbrev invariant-loop : tie.invariant-loop
-invariant-loop store sought presented i₀ i = Scanned (sought_key sought presented) store i
+abbrev invariant-loop-i : tie.invariant-loop-i
+invariant-loop-i store sought presented i₀ i = Scanned (sought_key sought presented) store i
 
-abbrev decreases-loop : tie.decreases-loop
-decreases-loop store sought presented i₀ i = slot_count - i
+abbrev decreases-loop-i : tie.decreases-loop-i
+decreases-loop-i store sought presented i₀ i = slot_count - i
 
-abbrev start : tie.At-loop invariant-loop decreases-loop → tie.Start invariant-loop decreases-loop
-start l = l.before.before
-
-abbrev test : tie.Start invariant-loop decreases-loop → Slot → Bool
+abbrev test : tie.Start invariant-loop-i decreases-loop-i → Slot → Bool
 test s = sought_key s.args.sought s.args.presented
 
-returns : tie.Need-returns invariant-loop decreases-loop
+returns : tie.Need-returns-then-matches invariant-loop-i decreases-loop-i
 returns c =
-    let l = c.before.before.before in
-    slot-stop (test (start l)) (start l).args.store.now l.loop.i l.loop.invariant At Nothing (omega arith)
-    (sym c.before.matches.ensures ∙ c.if1.true)
+    slot-stop (test c.before.before.before.before.before) c.args.store.now c.loop-i.i c.loop-i.invariant At Nothing (omega arith)
+    (sym c.matches.ensures ∙ c.if-matches.true)
 
-loop-again : tie.Need-loop-preserved invariant-loop decreases-loop
+loop-again : tie.Need-loop-i-preserved invariant-loop-i decreases-loop-i
 loop-again c =
-    let l = c.before.before.before in
-    slot_next (test (start l)) (start l).args.store.now l.loop.i l.loop.invariant (omega arith)
-    (sym c.before.matches.ensures ∙ c.if1.false)
+    slot_next (test c.before.before.before.before.before) c.args.store.now c.loop-i.i c.loop-i.invariant (omega arith)
+    (sym c.matches.ensures ∙ c.if-matches.false)
 
-returns-2 : tie.Need-returns-2 invariant-loop decreases-loop
+returns-2 : tie.Need-returns invariant-loop-i decreases-loop-i
 returns-2 c =
-    let l = c.before in
-    slot-end (test (start l)) (start l).args.store.now l.loop.i l.loop.invariant At Nothing (omega arith)
+    slot-end (test c.before.before.before) c.args.store.now c.loop-i.i c.loop-i.invariant At Nothing (omega arith)
 
 pub find_spec : {M : Type 1} → statement M
 find_spec =
     tie.close
-    (tie.spec invariant-loop decreases-loop (λ c. search rules) (λ c κs. search rules) returns (λ c. search rules) (λ c. search rules)
+    (tie.spec invariant-loop-i decreases-loop-i (λ c. search rules) (λ c κs. search rules) returns (λ c. search rules) (λ c. search rules)
     loop-again returns-2)

@@ -4,7 +4,7 @@ use Rattle.token_store.proofs.search.holds_handle.Statement.{statement}
 use Rattle.token_store.proofs.search.holds_handle.Tie as tie
 
 returns : tie.Need-returns
-returns c = rw (c.before.kind-of.ensures, c.has-handle.ensures)
+returns c = rw (c.kind_of.ensures, c.has_handle.ensures)
 
-pub holds-handle-spec : {M : Type 1} → statement M
-holds-handle-spec = tie.close (tie.spec (λ c κs. search rules) (λ c κs. search rules) returns)
+pub holds_handle_spec : {M : Type 1} → statement M
+holds_handle_spec = tie.close (tie.spec (λ c κs. search rules) (λ c κs. search rules) returns)

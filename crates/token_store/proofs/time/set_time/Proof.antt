@@ -8,8 +8,7 @@ use Rattle.token_store.proofs.time.set_time.Tie as tie
 
 returns : tie.Need-returns
 returns c =
-    let s = c.before.before.before.before.before in
-    ap decode c.before.before.write-be.ensures ∙ decode-time s.args.store.now s.args.t s.requires s.ranges.t.fits
+    ap decode c.write_be.ensures ∙ decode-time c.args.store.now c.args.t c.requires c.ranges.t.fits
 
-pub set-time-spec : {M : Type 1} → statement M
-set-time-spec = tie.close (tie.spec (λ c κs. search rules) (λ c. search rules) returns)
+pub set_time_spec : {M : Type 1} → statement M
+set_time_spec = tie.close (tie.spec (λ c κs. search rules) (λ c. search rules) returns)

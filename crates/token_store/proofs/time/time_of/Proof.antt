@@ -7,7 +7,7 @@ use Rattle.token_store.proofs.time.time_of.Tie as tie
 
 returns : tie.Need-returns
 returns c =
-    c.read-be64.ensures ∙ sym (time-at c.before.before.args.store.now)
+    c.read_be64.ensures ∙ sym (time-at c.args.store.now)
 
-pub time-of-spec : {M : Type 1} → statement M
-time-of-spec = tie.close (tie.spec (λ c κs. search rules) returns)
+pub time_of_spec : {M : Type 1} → statement M
+time_of_spec = tie.close (tie.spec (λ c κs. search rules) returns)

@@ -12,12 +12,10 @@ use Rattle.token_store.proofs.write.clear.Tie as tie
 
 returns : tie.Need-returns
 returns c =
-    let cleared = c.before.before in
-    let s = cleared.before.before.before.before in
-    let b = s.args.store.now in
-    ap decode (cleared.clear_at.ensures ∙ rw cleared.before.slot-start.ensures)
-    ∙ decode-put b s.args.i (replicate slot_size 0) s.requires.0 s.requires.1 (length-replicate {A = ℕ} slot_size 0)
-    ∙ ap (with_slot (decode b) s.args.i) free-read
+    let b = c.args.store.now in
+    ap decode (c.clear_at.ensures ∙ rw c.slot_start.ensures)
+    ∙ decode-put b c.args.i (replicate slot_size 0) c.requires.0 c.requires.1 (length-replicate {A = ℕ} slot_size 0)
+    ∙ ap (with_slot (decode b) c.args.i) free-read
 
 pub clear_spec : {M : Type 1} → statement M
 clear_spec = tie.close (tie.spec (λ c κs. search rules) (λ c κs. search rules) (λ c. search rules) returns)

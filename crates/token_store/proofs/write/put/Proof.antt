@@ -9,16 +9,12 @@ use Rattle.token_store.proofs.write.put.Tie as tie
 
 returns : tie.Need-returns
 returns c =
-    let copied = c.before.before in
-    let start = copied.before.before in
-    let made = start.before.before in
-    let s = made.before.before in
-    let b = s.args.store.now in
-    let slot = s.args.s in
-    let fits = made.slot-bytes.ensures.1 in
-    ap decode (copied.copy_at.ensures ∙ rw (start.slot-start.ensures, made.slot-bytes.ensures.0))
-    ∙ decode-put b s.args.i (encode_slot slot) s.requires.0 s.requires.1 (length-slot slot fits)
-    ∙ ap (with_slot (decode b) s.args.i) (slot-back slot fits)
+    let b = c.args.store.now in
+    let slot = c.args.s in
+    let fits = c.slot_bytes-bytes.ensures.1 in
+    ap decode (c.copy_at.ensures ∙ rw (c.slot_start.ensures, c.slot_bytes-bytes.ensures.0))
+    ∙ decode-put b c.args.i (encode_slot slot) c.requires.0 c.requires.1 (length-slot slot fits)
+    ∙ ap (with_slot (decode b) c.args.i) (slot-back slot fits)
 
 pub put_spec : {M : Type 1} → statement M
 put_spec =

@@ -23,38 +23,30 @@ fits c = record {
   link = search rules;
 }
 
-copy-at-requires : tie.Need-copy-at-requires
+copy-at-requires : tie.Need-copy_at-requires
 copy-at-requires c κs = omega (arith, (fits c.before.before.before).handle)
 
-write-be-requires : tie.Need-write-be-requires
-write-be-requires c κs = simp length-set (omega (arith, simp length-set at c.before.before.before.copy_at.auto.0))
+write-be-requires : tie.Need-write_be-requires
+write-be-requires c κs = simp length-set (omega (arith, simp length-set at c.copy_at.auto.b))
 
-write-be-requires-2 : tie.Need-write-be-requires-2
-write-be-requires-2 c κs = simp length-set (omega (arith, simp length-set at c.before.before.write-be.auto.0))
+write-be-requires-2 : tie.Need-write_be-requires-2
+write-be-requires-2 c κs = simp length-set (omega (arith, simp length-set at c.write_be.auto.b))
 
-copy-at-requires-2 : tie.Need-copy-at-requires-2
+copy-at-requires-2 : tie.Need-copy_at-requires-2
 copy-at-requires-2 c κs =
-    let third = c.before.before.before.before in
-    let first = third.before.before.before.before.before.before.before in
-    let start = first.before.before.before.before in
-    omega (arith, third.write-be2.auto.0, (fits start).link)
+    omega (arith, c.write_be-2.auto.b, (fits c.before.before.before.before.before.before.before.before.before.before.before.before.before.before.before).link)
 
 returns : tie.Need-returns
 returns c =
-    let fourth = c.before in
-    let third = fourth.before.before.before.before.before in
-    let second = third.before.before.before in
-    let first = second.before.before.before.before in
-    let start = first.before.before.before.before in
-    let s = start.args.s in
+    let s = c.args.s in
     let zeros = replicate {A = ℕ} slot_size 0 in
     let stored =
-    store-slot zeros 0 s (fits start) _ _ _ _ first.copy_at.ensures second.write-be.ensures third.write-be2.ensures fourth.copy-at2.ensures
+    store-slot zeros 0 s (fits c.before.before.before.before.before.before.before.before.before.before.before.before.before.before.before.before.before) _ _ _ _ c.copy_at.ensures c.write_be.ensures c.write_be-2.ensures c.copy_at-2.ensures
     in
-    (stored ∙ sets-all zeros (encode_slot s) (length-slot s (fits start)), fits start)
+    (stored ∙ sets-all zeros (encode_slot s) (length-slot s (fits c.before.before.before.before.before.before.before.before.before.before.before.before.before.before.before.before.before)), fits c.before.before.before.before.before.before.before.before.before.before.before.before.before.before.before.before.before)
 
-pub slot-bytes-spec : {M : Type 1} → statement M
-slot-bytes-spec =
+pub slot_bytes_spec : {M : Type 1} → statement M
+slot_bytes_spec =
     tie.close
     (tie.spec (λ c. search rules) (λ c. search rules) (λ c. search rules) copy-at-requires (λ c. search rules) (λ c. search rules)
     (λ c. search rules) write-be-requires (λ c. search rules) (λ c. search rules) write-be-requires-2 (λ c. search rules) (λ c. search rules) copy-at-requires-2 returns)
