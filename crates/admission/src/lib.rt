@@ -1,4 +1,6 @@
 // admission: a call's way in. Refusals 1 to 4, which change nothing at all, and the time of a call that is past them.
+#![tactic(auto)]
+
 ghost use Rattle.std.specs.Prelude.{◌≡◌};
 ghost use Rattle.protocol.specs.Outcomes.{unfit_output, unfit_buffers, admit};
 ghost use Rattle.admission.specs.Entering.{Entered};

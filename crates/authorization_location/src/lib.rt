@@ -2,6 +2,8 @@
 //
 // A location is the redirect address, a parameter and the state, each written behind the one before. The most that each
 // takes is in specs/Rooms.antt: together less than the output that a call must bring.
+#![tactic(auto)]
+
 ghost use Rattle.std.specs.Prelude.{◌++◌, ◌+◌, ◌<◌, ◌≤◌, ◌≡◌, length};
 ghost use Rattle.octets.specs.Writing.{Appended};
 ghost use Rattle.form.specs.Places.{view_of, Within};

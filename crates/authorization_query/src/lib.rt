@@ -3,6 +3,8 @@
 //
 // A query is refused with an error page until its client and redirect address are known to be good. Only then is there
 // a `ClientQuery`, and with it an address to send the user to: the registered one, never one from the query.
+#![tactic(auto)]
+
 ghost use Rattle.std.specs.Prelude.{◌≡◌, true};
 ghost use Rattle.client_registry.specs.Registry.{clients_of, fit_registry};
 ghost use Rattle.client_registry.specs.Lookup.{client_at, IsEntry};

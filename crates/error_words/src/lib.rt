@@ -1,4 +1,6 @@
 // error_words: the error words of RFC 6749 as both endpoints write them, with their numbers and their HTTP statuses.
+#![tactic(auto)]
+
 ghost use Rattle.std.specs.Prelude.{◌≡◌, ◌+◌, ◌≤◌, length};
 ghost use Rattle.octets.specs.Writing.{Appended};
 ghost use Rattle.protocol.specs.Answers.{word_text, word_number, word_status};

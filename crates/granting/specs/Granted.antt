@@ -49,8 +49,8 @@ random_needed (Revocation r) = 0
 -- ---- steps of a grant
 
 -- where the client's own code or refresh token is, live at t
-abbrev pub field_own : ℕ → ℕ → Sought → HandleText → List Slot → Found
-field_own t client sought presented slots =
+abbrev pub own_at : ℕ → ℕ → Sought → HandleText → List Slot → Found
+own_at t client sought presented slots =
     cond (is_own t client (shown_slot sought presented slots)) (found_at (index_where (sought_key sought presented) slots)) Nothing
 
 -- the slots after an access and a refresh token are issued on a code

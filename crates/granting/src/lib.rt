@@ -4,6 +4,8 @@
 // nothing. One refusal changes the store: a code that is shown again withdraws the tokens that came from it. A revocation
 // that is granted issues nothing: it takes a token out of the store. Time is the call's time t, which no clock moves back,
 // and never a clock.
+#![tactic(auto)]
+
 ghost use Rattle.std.specs.Prelude.{◌≡◌, [], ◌+◌, ◌<◌, ◌≤◌, length, set};
 ghost use Rattle.token_store.specs.Layout.{store_size, slot_count, latest_time};
 ghost use Rattle.token_store.specs.Store.{decode, with_slots, spent_code, code_kind, kind_last, lifetime_of};

@@ -989,13 +989,13 @@ unmet {cs = cs} r claim = r.fails (claim cs r.typed)
 -- ---- what the claim does not shut out: "demand 3 alone holds of a desk that issues nothing"
 
 module _ (registry : List ℕ) where
-  nothing-stands : (b : List ℕ) (k : Contents) → k.standing ≡ [] → (cs : List Call)
+  nothing-stands : (b : List ℕ) (cs : List Call) (k : Contents) → k.standing ≡ []
       → (with_events (clients_of registry) k (events refuses_everyone registry b cs)).standing ≡ []
   unfolding refuses_everyone events with_events with_event standing_after keep
-  nothing-stands b k e [] = e
-  nothing-stands b k e (c ∷ cs) =
+  nothing-stands b [] k e = e
+  nothing-stands b (c ∷ cs) k e =
       let t = max (handed_to c).clock k.highest in
-      nothing-stands b _ (ap (λ (l : List Issue). keep (λ x. not (is_withdrawn_by (clients_of registry) t l c x)) l) e) cs
+      nothing-stands b cs _ (ap (λ (l : List Issue). keep (λ x. not (is_withdrawn_by (clients_of registry) t l c x)) l) e)
 
   -- so that nothing is shown twice
   nothing-shown : (t : ℕ) (c : Call) → is_second_showing (clients_of registry) t [] c ≡ false
@@ -1008,7 +1008,7 @@ module _ (registry : List ℕ) where
   pub refusing-meets : (cs : List Call) → Demand3 refuses_everyone registry cs
   unfolding refuses_everyone may_exchange may_refresh may_pass any
   refusing-meets cs =
-      let none = nothing-stands fresh_store nothing_yet refl cs in
+      let none = nothing-stands fresh_store cs nothing_yet refl in
       record {
         exchanges = λ header body handed asks is. rw none;
         refreshes = λ header body handed asks is. rw none;

@@ -4,6 +4,8 @@
 //
 // A place comes from form::read, and lies within its form, which is no longer than a form that is read. The token store
 // is not looked at.
+#![tactic(auto)]
+
 ghost use Rattle.std.specs.Prelude.{◌≡◌, true, ◌≤◌, length};
 ghost use Rattle.octets.specs.Lists.{every};
 ghost use Rattle.encoding.specs.Hex.{read_handle};

@@ -13,65 +13,46 @@ use Rattle.admission.proofs.Admitting.{told-clients, told-unfit}
 use Rattle.admission.proofs.admit.Statement.{statement}
 use Rattle.admission.proofs.admit.Tie as tie
 
-abbrev start : tie.Else1 → tie.Start
-start c = c.before.before.before
-
--- the registry is fit, with so many clients
-abbrev sized : tie.After-clients → tie.Else1
-sized c = c.before.before.before
-
-told : (c : tie.After-clients)
-    → let registry = (start (sized c)).args.registry.now in
-    (fit_registry registry ≡ true) × (c.clients.given.0.0 ≡ length (clients_of registry))
-told c = told-clients _ _ (sym c.clients.given.1 ∙ c.before.before.fitness-of.ensures)
-
--- what is known of the store
-abbrev counted : tie.After-fit → tie.After-clients
-counted c = c.before.before
+told : (c : tie.In-Clients)
+    → let registry = c.args.registry.now in
+    (fit_registry registry ≡ true) × (c.in-Clients.clients ≡ length (clients_of registry))
+told c = told-clients _ _ (sym c.in-Clients.is ∙ c.fitness_of.ensures)
 
 stored : (c : tie.After-fit)
-    → let a = (start (sized (counted c))).args in
+    → let a = c.args in
     fit_store (length (clients_of a.registry.now)) a.store.now ≡ c.fit.result
-stored c = ap (λ (n : ℕ). fit_store n (start (sized (counted c))).args.store.now) (sym (told (counted c)).1) ∙ sym c.fit.ensures
+stored c = ap (λ (n : ℕ). fit_store n c.args.store.now) (sym (told c.before).1) ∙ sym c.fit.ensures
 
-returns : tie.Need-returns
+returns : tie.Need-returns-then-unfit
 unfolding admit
-returns c = sym (first-counts (stop c.if1.true))
+returns c = sym (first-counts (stop c.if-unfit.true))
 
-returns-2 : tie.Need-returns-2
+returns-2 : tie.Need-returns-in_default
 unfolding admit
 returns-2 c =
-    let looked = c.before.before in
-    sym (first-counts (pass looked.before.if1.false (stop (ap not (told-unfit _ (sym c.enum_told.given.1 ∙ looked.fitness-of.ensures))))))
+    sym (first-counts (pass c.if-unfit.false (stop (ap not (told-unfit _ (sym c.in_default.is ∙ c.fitness_of.ensures))))))
 
-returns-3 : tie.Need-returns-3
+returns-3 : tie.Need-returns-then-not-fit
 unfolding admit
 returns-3 c =
-    let at = counted c.before in
-    sym (first-counts (pass (sized at).if1.left (pass (ap not (told at).0) (stop (ap not (stored c.before) ∙ c.if2.true)))))
+    sym (first-counts (pass c.if-unfit.false (pass (ap not (told c.before.before).0) (stop (ap not (stored c.before) ∙ c.if-not-fit.true-raw)))))
 
--- past the test of the store
-abbrev fitted : tie.Else2 → tie.After-clients
-fitted c = counted c.before
-
-returns-4 : tie.Need-returns-4
+returns-4 : tie.Need-returns-then-clock-gt-LATEST_TIME
 unfolding admit
 returns-4 c =
-    let at = fitted c.before in
-    let store = ap not (stored c.before.before) ∙ c.before.if2.false in
+    let store = ap not (stored c.before.before) ∙ c.if-not-fit.false-raw in
     sym (first-counts
-    (pass (sized at).if1.left (pass (ap not (told at).0) (pass store (stop (lt-ltb _ _ c.if3.true))))))
+    (pass c.if-unfit.false (pass (ap not (told c.before.before.before).0) (pass store (stop (lt-ltb _ _ c.if-clock-gt-LATEST_TIME.true))))))
 
-returns-5 : tie.Need-returns-5
+returns-5 : tie.Need-returns
 unfolding admit
 returns-5 c =
-    let at = fitted c.before in
-    let store = ap not (stored c.before.before) ∙ c.before.if2.false in
+    let store = ap not (stored c.before.before) ∙ c.if-not-fit.false-raw in
     sym (first-counts
-    (pass (sized at).if1.left (pass (ap not (told at).0) (pass store (pass (le-ltb _ _ c.if3.false) none)))))
+    (pass c.if-unfit.false (pass (ap not (told c.before.before.before).0) (pass store (pass (le-ltb _ _ c.if-clock-gt-LATEST_TIME.false) none)))))
 
-pub admit-spec : {M : Type 1} → statement M
-admit-spec =
+pub admit_spec : {M : Type 1} → statement M
+admit_spec =
     tie.close
     (tie.spec
     returns

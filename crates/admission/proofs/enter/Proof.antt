@@ -13,42 +13,35 @@ use Rattle.admission.proofs.Admitting.{admitted, store-size}
 use Rattle.admission.proofs.enter.Statement.{statement}
 use Rattle.admission.proofs.enter.Tie as tie
 
-abbrev start : tie.After-admit → tie.Start
-start c = c.before.before.before.before
-
 -- what the tests said, and what is known past them
-passed : (c : tie.After-enum-told) → let a = (start c.before.before).args in Grant ≡ admit a.unfit a.registry.now a.store.now a.clock
-passed c = sym c.enum_told.given.1 ∙ c.before.before.admit.ensures
+passed : (c : tie.In_default) → let a = c.args in Grant ≡ admit a.unfit a.registry.now a.store.now a.clock
+passed c = sym c.in_default.is ∙ c.admit-admitted.ensures
 
-size : (c : tie.After-enum-told) → length (start c.before.before).args.store.now ≡ store_size
+size : (c : tie.In_default) → length c.args.store.now ≡ store_size
 size c = store-size (admitted _ _ _ _ (passed c))
 
-returns : tie.Need-returns
+returns : tie.Need-returns-in-Refuse
 unfolding admission_by
 returns c =
-    let judged = c.before.before.before in
-    let a = (start judged).args in
-    let refused = sym c.before.admitted.given.1 ∙ judged.admit.ensures in
+    let a = c.args in
+    let refused = sym c.in-Refuse.is ∙ c.admit-admitted.ensures in
     record { answer = ap (λ (d : Decision). admission_by d (call_time (decode a.store.now) a.clock)) refused; store = search rules }
 
-call-time-requires : tie.Need-call-time-requires
-call-time-requires c κs = size c.before
+call-time-requires : tie.Need-call_time-t-requires
+call-time-requires c κs = size c
 
-set-time-requires : tie.Need-set-time-requires
-set-time-requires c κs = size c.before.before.before
+set-time-requires : tie.Need-set_time-requires
+set-time-requires c κs = size c.before.before
 
-returns-2 : tie.Need-returns-2
+returns-2 : tie.Need-returns
 unfolding admission_by
 returns-2 c =
-    let written = c.before.before in
-    let timed = written.before.before in
-    let told = timed.before.before in
-    let a = (start told.before.before).args in
+    let a = c.args in
     record {
       answer =
-          ap At timed.call-time.ensures
-          ∙ ap (λ (d : Decision). admission_by d (call_time (decode a.store.now) a.clock)) (passed told);
-      store = written.set-time.ensures;
+          ap At c.call_time-t.ensures
+          ∙ ap (λ (d : Decision). admission_by d (call_time (decode a.store.now) a.clock)) (passed c.before.before.before.before.before);
+      store = c.set_time.ensures;
     }
 
 pub enter_spec : {M : Type 1} → statement M

@@ -4,7 +4,7 @@ use Rattle.admission.proofs.unfit_buffers.Statement.{statement}
 use Rattle.admission.proofs.unfit_buffers.Tie as tie
 
 returns : tie.Need-returns
-returns c = rw c.unfit-output.ensures
+returns c = rw c.unfit_output.ensures
 
-pub unfit-buffers-spec : {M : Type 1} → statement M
-unfit-buffers-spec = tie.close (tie.spec (λ c κs. search rules) returns)
+pub unfit_buffers_spec : {M : Type 1} → statement M
+unfit_buffers_spec = tie.close (tie.spec (λ c κs. search rules) returns)

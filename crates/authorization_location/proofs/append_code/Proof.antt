@@ -8,10 +8,9 @@ use Rattle.authorization_location.proofs.append_code.Tie as tie
 returns : tie.Need-returns
 unfolding code_parameter
 returns c =
-    let wrote = c.before.before in
-    append-both wrote.before.before.before.before.append.ensures wrote.append-hex.ensures
+    append-both c.append-next.ensures c.append_hex.ensures
 
-pub append-code-spec : {M : Type 1} → statement M
-append-code-spec =
+pub append_code_spec : {M : Type 1} → statement M
+append_code_spec =
     tie.close
-    (tie.spec (λ c. search rules) (λ c κs. search rules) (λ c κs. search rules) (λ c. search rules) returns)
+    (tie.spec (λ c κs. search rules) (λ c κs. search rules) (λ c. search rules) returns)

@@ -8,10 +8,9 @@ use Rattle.authorization_location.proofs.append_error.Tie as tie
 returns : tie.Need-returns
 unfolding error_parameter
 returns c =
-    let wrote = c.before.before in
-    append-both wrote.before.before.before.before.append.ensures wrote.append-word.ensures
+    append-both c.append-next.ensures c.append_word.ensures
 
-pub append-error-spec : {M : Type 1} → statement M
-append-error-spec =
+pub append_error_spec : {M : Type 1} → statement M
+append_error_spec =
     tie.close
-    (tie.spec (λ c. search rules) (λ c κs. search rules) (λ c κs. search rules) (λ c. search rules) returns)
+    (tie.spec (λ c κs. search rules) (λ c κs. search rules) (λ c. search rules) returns)

@@ -13,53 +13,38 @@ use Rattle.authorization_location.proofs.Parts.{is_held_back, held_back, state-n
 use Rattle.authorization_location.proofs.append_state.Statement.{statement}
 use Rattle.authorization_location.proofs.append_state.Tie as tie
 
-abbrev start : tie.After-value-into → tie.Start
-start c = c.before.before.before.before
+abbrev state_in : tie.After-value_into-n → Value
+state_in c = view_of c.args.query.now c.args.state
 
-abbrev state_in : tie.After-value-into → Value
-state_in c = view_of (start c).args.query.now (start c).args.state
-
-decoded : (c : tie.After-value-into) → Front c.value-into.new.1.1.0 c.value-into.result (only_value (state_in c))
+decoded : (c : tie.After-value_into-n) → Front c.value_into-n.new.out c.value_into-n.result (only_value (state_in c))
 decoded c =
-    front-value (start c).args.query.now (start c).args.state (start c).requires.1 _ _ c.value-into.ensures.0 c.value-into.ensures.1
+    front-value c.args.query.now c.args.state c.requires.1 _ _ c.value_into-n.ensures.0 c.value_into-n.ensures.1
 
--- what is tested is whether the state is held back
-abbrev read : tie.After-is-repeated → tie.After-value-into
-read c = c.before.before.before.before.before
+abbrev test : tie.After-is_repeated → Bool
+test c = c.is_missing.result || c.is_repeated.result || not c.is_sound_state-sound.result
 
-abbrev test : tie.After-is-repeated → Bool
-test c = c.before.is-missing.result || c.is-repeated.result || not c.before.before.is-sound-state.result
-
-tested : (c : tie.After-is-repeated) → is_held_back (state_in (read c)) ≡ test c
+tested : (c : tie.After-is_repeated) → is_held_back (state_in c.before.before.before.before.before) ≡ test c
 tested c =
-    held_back (state_in (read c)) c.before.is-missing.ensures c.is-repeated.ensures
-    (c.before.before.is-sound-state.ensures ∙ ap is_sound_state (decoded (read c)).text)
+    held_back (state_in c.before.before.before.before.before) c.is_missing.ensures c.is_repeated.ensures
+    (c.is_sound_state-sound.ensures ∙ ap is_sound_state (decoded c.before.before.before.before.before).text)
 
-returns : tie.Need-returns
-returns c = rw (state-none _ (tested c.before ∙ c.if1.true)) (append-nothing _ _)
+returns : tie.Need-returns-then-is_missing-is_repeated
+returns c = rw (state-none _ (tested c.before ∙ c.if-is_missing-is_repeated.true)) (append-nothing _ _)
 
-abbrev passed : tie.After-append → tie.Else1
-passed c = c.before.before.before
-
-append-value-requires : tie.Need-append-value-requires
+append-value-requires : tie.Need-append_value-requires
 append-value-requires c κs =
-    let named = c.before.before.before in
-    let past = passed named in
-    let value = decoded (read past.before) in
-    let short = sent-length _ (tested past.before ∙ past.if1.left) in
-    let room = (start (read past.before)).requires.2 in
-    omega (arith, room, short, value.count, value.size, named.append.ensures.end, named.append.auto.0)
+    let value = decoded c.before.before.before.before.before.before.before.before.before.before.before.before.before in
+    let short = sent-length _ (tested c.before.before.before.before.before.before.before.before ∙ c.if-is_missing-is_repeated.false) in
+    let room = c.requires.2 in
+    omega (arith, room, short, value.count, value.size, c.append-next.ensures.end, c.append-next.auto.out)
 
-returns-2 : tie.Need-returns-2
+returns-2 : tie.Need-returns
 returns-2 c =
-    let wrote = c.before.before in
-    let named = wrote.before.before.before.before in
-    let past = passed named in
-    let text = rw (decoded (read past.before)).text at wrote.append-value.ensures in
-    rw (state-some _ (tested past.before ∙ past.if1.left)) (append-both named.append.ensures text)
+    let text = rw (decoded c.before.before.before.before.before.before.before.before.before.before.before.before.before.before.before.before).text at c.append_value.ensures in
+    rw (state-some _ (tested c.before.before.before.before.before.before.before.before.before.before.before ∙ c.if-is_missing-is_repeated.false)) (append-both c.append-next.ensures text)
 
-pub append-state-spec : {M : Type 1} → statement M
-append-state-spec =
+pub append_state_spec : {M : Type 1} → statement M
+append_state_spec =
     tie.close
     (tie.spec
     (λ c. search rules)
@@ -70,7 +55,6 @@ append-state-spec =
     (λ c κs. search rules)
     (λ c κs. search rules)
     returns
-    (λ c. search rules)
     (λ c κs. search rules)
     append-value-requires
     (λ c. search rules)

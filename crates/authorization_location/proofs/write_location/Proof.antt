@@ -5,16 +5,14 @@ use Rattle.protocol.specs.Authorization.{location_text}
 use Rattle.authorization_location.proofs.write_location.Statement.{statement}
 use Rattle.authorization_location.proofs.write_location.Tie as tie
 
-told : tie.Need-returns-2
+told : tie.Need-returns-in-Redirect
 unfolding location_text
 told c =
-    let wrote = c.before.before in
-    let refused = wrote.before.before.before in
-    rw (refused.before.before.before.decision.given.1, refused.refusal.given.1) wrote.write-refused.ensures
+    rw (c.in-Refuse.is, c.in-Redirect.is) c.write_refused.ensures
 
-pub write-location-spec : {M : Type 1} → statement M
+pub write_location_spec : {M : Type 1} → statement M
 unfolding location_text
-write-location-spec =
+write_location_spec =
     tie.close
     (tie.spec
     (λ c. search rules)
@@ -27,10 +25,10 @@ write-location-spec =
     (λ c. search rules)
     (λ c. search rules)
     (λ c. search rules)
-    (λ c. rw c.before.before.before.before.enum_told.given.1 c.before.before.write_granted.ensures)
+    (λ c. rw c.in-Grant.is c.write_granted.ensures)
     (λ c. search rules)
     told
-    (λ c. rw (c.before.before.before.decision.given.1, c.enum-told2.given.1) (append-nothing _ 0))
-    (λ c. rw (c.before.before.before.decision.given.1, c.enum-told3.given.1) (append-nothing _ 0))
-    (λ c. rw (c.before.before.before.decision.given.1, c.enum-told4.given.1) (append-nothing _ 0))
-    (λ c. rw (c.before.before.before.decision.given.1, c.enum-told5.given.1) (append-nothing _ 0)))
+    (λ c. rw (c.in-Refuse.is, c.in-Unfit.is) (append-nothing _ 0))
+    (λ c. rw (c.in-Refuse.is, c.in-ErrorPage.is) (append-nothing _ 0))
+    (λ c. rw (c.in-Refuse.is, c.in-Token.is) (append-nothing _ 0))
+    (λ c. rw (c.in-Refuse.is, c.in-Failed.is) (append-nothing _ 0)))

@@ -6,35 +6,22 @@ use Rattle.authorization_location.proofs.Parts.{error-length, parameter-room, st
 use Rattle.authorization_location.proofs.write_refused.Statement.{statement}
 use Rattle.authorization_location.proofs.write_refused.Tie as tie
 
-abbrev called : tie.After-write-redirect-arg → tie.Start
-called c = c.before.before.before.before
-
-abbrev address : tie.After-append-error → tie.After-write-redirect
-address c = c.before.before.before.before
-
-append-error-requires : tie.Need-append-error-requires
+append-error-requires : tie.Need-append_error-next-requires
 append-error-requires c κs =
-    let first = c.before.before.before in
-    let s = called first.before in
-    parameter-room s.pre first.write-redirect.ensures
+    parameter-room c.requires c.write_redirect-at.ensures
 
-append-state-requires : tie.Need-append-state-requires
+append-state-requires : tie.Need-append_state-requires
 append-state-requires c κs =
-    let second = c.before.before.before in
-    let first = address second in
-    let s = called first.before in
-    let short = error-length s.args.word in
-    (s.pre.within, s.pre.short, state-room s.pre short first.write-redirect.ensures second.append-error.ensures)
+    let short = error-length c.args.word in
+    (c.requires.within, c.requires.short, state-room c.requires short c.write_redirect-at.ensures c.append_error-next.ensures)
 
 returns : tie.Need-returns
 unfolding location
 returns c =
-    let wrote = c.before.before in
-    let second = wrote.before.before.before.before in
-    append-both (append-both (address second).write-redirect.ensures second.append-error.ensures) wrote.append-state.ensures
+    append-both (append-both c.write_redirect-at.ensures c.append_error-next.ensures) c.append_state.ensures
 
-pub write-refused-spec : {M : Type 1} → statement M
-write-refused-spec =
+pub write_refused_spec : {M : Type 1} → statement M
+write_refused_spec =
     tie.close
     (tie.spec
     (λ c κs. search rules)

@@ -25,18 +25,6 @@ use Rattle.authorization_query.proofs.ask.Tie as tie
 
 -- ---- places
 
-abbrev start : tie.Else1 → tie.Start
-start c = c.before.before.before.before
-
-abbrev sound : tie.After-is-once → tie.Else1
-sound c = c.before.before.before
-
-abbrev typed : tie.After-scope-asked → tie.Else2
-typed c = c.before.before
-
-abbrev asking : tie.After-scope-asked → tie.Start
-asking c = start (sound (typed c).before)
-
 abbrev query_in : tie.Start → List ℕ
 query_in s = s.args.query.now
 
@@ -48,91 +36,81 @@ scope_in s = scope_asked (form_value (query_in s) (bytes "scope"))
 
 -- ---- the tests
 
-invalid : (c : tie.After-is-invalid-request) → let s = c.before.before.before in is_invalid_request (client_in s) (query_in s) ≡ c.is-invalid-request.result
+invalid : (c : tie.After-is_invalid_request) → is_invalid_request (client_in c.before.before.before) (query_in c.before.before.before) ≡ c.is_invalid_request.result
 invalid c =
-    let s = c.before.before.before in
-    ap (λ (n : ℕ). is_invalid_request (client_at (clients_of s.args.registry.now) n) (query_in s)) (sym s.requires.1.number)
-    ∙ sym c.is-invalid-request.ensures
+    ap (λ (n : ℕ). is_invalid_request (client_at (clients_of c.args.registry.now) n) (query_in c.before.before.before)) (sym c.requires.1.number)
+    ∙ sym c.is_invalid_request.ensures
 
-valid : (c : tie.Else1) → is_invalid_request (client_in (start c)) (query_in (start c)) ≡ false
-valid c = invalid c.before ∙ c.if1.false
+valid : (c : tie.Else-is_invalid_request) → is_invalid_request (client_in c.before.before.before.before) (query_in c.before.before.before.before) ≡ false
+valid c = invalid c.before ∙ c.if-is_invalid_request.false
 
-other : (c : tie.After-is-once) → is_other_type (query_in (start (sound c))) ≡ not c.is-once.result
+other : (c : tie.After-is_once) → is_other_type (query_in c.before.before.before.before.before.before.before.before) ≡ not c.is_once.result
 unfolding is_other_type
 other c =
-    let said = ((start (sound c)).requires.2.stands.at 0 (lit< tt)).value in
-    ap not (ap (is_once (bytes "code")) (sym said) ∙ sym c.is-once.ensures)
+    let said = (c.requires.2.stands.at 0 (lit< tt)).value in
+    ap not (ap (is_once (bytes "code")) (sym said) ∙ sym c.is_once.ensures)
 
-asked : (c : tie.After-scope-asked) → c.scope-asked.result ≡ scope_in (asking c)
-asked c = c.scope-asked.ensures ∙ ap scope_asked ((asking c).requires.2.stands.at 3 (lit< tt)).value
+asked : (c : tie.After-scope_asked-asked) → c.scope_asked-asked.result ≡ scope_in c.before.before.before.before.before.before.before.before.before.before.before
+asked c = c.scope_asked-asked.ensures ∙ ap scope_asked (c.requires.2.stands.at 3 (lit< tt)).value
 
-held : (c : tie.After-scope-set) → c.scope-set.result ≡ (client_in (asking c.before)).scope
+held : (c : tie.After-scope_set-held) → c.scope_set-held.result ≡ (client_in c.before.before.before.before.before.before.before.before.before.before.before.before).scope
 held c =
-    let s = asking c.before in
-    c.scope-set.ensures ∙ ap (λ (n : ℕ). (client_at (clients_of s.args.registry.now) n).scope) s.pre.1.number
+    c.scope_set-held.ensures ∙ ap (λ (n : ℕ). (client_at (clients_of c.args.registry.now) n).scope) c.requires.1.number
 
-beyond : (c : tie.After-scope-fits) → let s = asking c.before.before in is_invalid_scope (client_in s) (query_in s) ≡ not c.scope-fits.result
+beyond : (c : tie.After-scope_fits) → is_invalid_scope (client_in c.before.before.before.before.before.before.before.before.before.before.before.before.before) (query_in c.before.before.before.before.before.before.before.before.before.before.before.before.before) ≡ not c.scope_fits.result
 unfolding is_invalid_scope
 beyond c =
-    let got = ap (λ (a : ScopeAsked). fits a c.before.scope-set.result) (asked c.before.before) in
-    ap not (sym (c.scope-fits.ensures ∙ got ∙ ap (fits _) (held c.before)))
+    let got = ap (λ (a : ScopeAsked). fits a c.scope_set-held.result) (asked c.before.before) in
+    ap not (sym (c.scope_fits.ensures ∙ got ∙ ap (fits _) (held c.before)))
 
 -- ---- the answers
 
-returns : tie.Need-returns
+returns : tie.Need-returns-then-is_invalid_request
 unfolding redirect_reasons
-returns c = asked_by_lem _ _ _ _ (stop (invalid c.before ∙ c.if1.true))
+returns c = asked_by_lem _ _ _ _ (stop (invalid c.before ∙ c.if-is_invalid_request.true))
 
-returns-2 : tie.Need-returns-2
+returns-2 : tie.Need-returns-then-not-is_once
 unfolding redirect_reasons
-returns-2 c = asked_by_lem _ _ _ _ (pass (valid (sound c.before)) (stop (other c.before ∙ c.if2.true)))
+returns-2 c = asked_by_lem _ _ _ _ (pass (valid c.before.before.before.before.before) (stop (other c.before ∙ c.if-not-is_once.true-raw)))
 
-returns-3 : tie.Need-returns-3
+returns-3 : tie.Need-returns-then-not-scope_fits
 unfolding redirect_reasons
 returns-3 c =
-    let code = typed c.before.before.before in
-    asked_by_lem _ _ _ _ (pass (valid (sound code.before)) (pass (other code.before ∙ code.if2.left) (stop (beyond c.before ∙ c.if3.true))))
+    asked_by_lem _ _ _ _ (pass (valid c.before.before.before.before.before.before.before.before.before.before) (pass (other c.before.before.before.before.before.before ∙ c.if-not-is_once.false-raw) (stop (beyond c.before ∙ c.if-not-scope_fits.true-raw))))
 
 -- past the first three reasons the decision is left
-decided : (c : tie.Else3) {d : Decision}
-    → let s = asking c.before.before.before in First (when (is_denied s.args.decision s.args.farm) (Redirect AccessDenied) ∷ []) d
-    → First (redirect_reasons (client_in s) (query_in s) s.args.decision s.args.farm) d
+decided : (c : tie.Else-not-scope_fits) {d : Decision}
+    → First (when (is_denied c.args.decision c.args.farm) (Redirect AccessDenied) ∷ []) d
+    → First (redirect_reasons (client_in c.before.before.before.before.before.before.before.before.before.before.before.before.before.before) (query_in c.before.before.before.before.before.before.before.before.before.before.before.before.before.before) c.args.decision c.args.farm) d
 unfolding redirect_reasons
 decided c f =
-    let code = typed c.before.before.before in
-    pass (valid (sound code.before)) (pass (other code.before ∙ code.if2.left) (pass (beyond c.before ∙ c.if3.false) f))
+    pass (valid c.before.before.before.before.before.before.before.before.before.before) (pass (other c.before.before.before.before.before.before ∙ c.if-not-is_once.false-raw) (pass (beyond c.before ∙ c.if-not-scope_fits.false-raw) f))
 
-returns-4 : tie.Need-returns-4
-returns-4 c = let tested = c.before in asked_by_lem _ _ _ _ (decided tested.before (stop (sym tested.is-denied.ensures ∙ c.if4.true)))
+returns-4 : tie.Need-returns-then-is_denied
+returns-4 c = asked_by_lem _ _ _ _ (decided c.before.before (stop (sym c.is_denied.ensures ∙ c.if-is_denied.true)))
 
-abbrev looked : tie.After-scope-given → tie.After-scope-set
-looked c = c.before.before.before.before.before.before
-
-given : (c : tie.After-scope-given) → let s = asking (looked c).before in c.scope-given.result ≡ scope_given (scope_in s) (client_in s).scope
+given : (c : tie.After-scope_given) → c.scope_given.result ≡ scope_given (scope_in c.before.before.before.before.before.before.before.before.before.before.before.before.before.before.before.before.before.before) (client_in c.before.before.before.before.before.before.before.before.before.before.before.before.before.before.before.before.before.before).scope
 given c =
-    let got = ap (λ (a : ScopeAsked). scope_given a (looked c).scope-set.result) (asked (looked c).before) in
-    c.scope-given.ensures ∙ got ∙ ap (scope_given _) (held (looked c))
+    let got = ap (λ (a : ScopeAsked). scope_given a c.scope_set-held.result) (asked c.before.before.before.before.before.before.before) in
+    c.scope_given.ensures ∙ got ∙ ap (scope_given _) (held c.before.before.before.before.before.before)
 
-returns-5 : tie.Need-returns-5
+returns-5 : tie.Need-returns
 returns-5 c =
-    let allowed = c.before.before.before in
-    let s = asking (looked c.before).before in
-    let bound = c.is-missing.ensures ∙ ap is_missing (s.pre.2.stands.at 2 (lit< tt)).value in
-    ap Code (code_is (clients_of s.args.registry.now) (query_in s) s.args.farm s.pre.1.number (given c.before) bound)
-    ∙ asked_by_lem _ _ _ _ (decided allowed.before.before (pass (sym allowed.before.is-denied.ensures ∙ allowed.if4.false) none))
+    let bound = c.is_missing.ensures ∙ ap is_missing (c.requires.2.stands.at 2 (lit< tt)).value in
+    ap Code (code_is (clients_of c.args.registry.now) (query_in c.before.before.before.before.before.before.before.before.before.before.before.before.before.before.before.before.before.before.before) c.args.farm c.requires.1.number (given c.before) bound)
+    ∙ asked_by_lem _ _ _ _ (decided c.before.before.before.before.before (pass (sym c.is_denied.ensures ∙ c.if-is_denied.false) none))
 
-pub ask-spec : {M : Type 1} → statement M
-ask-spec =
+pub ask_spec : {M : Type 1} → statement M
+ask_spec =
     tie.close
     (tie.spec
     (λ c κs. search rules)
     returns
     (λ c. search rules)
-    (λ c. search rules)
-    (λ c κs. ((start c.before.before).requires.2.stands.at 0 (lit< tt)).within)
+    (λ c κs. (c.requires.2.stands.at 0 (lit< tt)).within)
     returns-2
     (λ c. search rules)
-    (λ c κs. let r = (start (sound c.before.before)).requires.2 in ((r.stands.at 3 (lit< tt)).within, r.short))
+    (λ c κs. let r = c.requires.2 in ((r.stands.at 3 (lit< tt)).within, r.short))
     (λ c κs. search rules)
     (λ c κs. search rules)
     returns-3

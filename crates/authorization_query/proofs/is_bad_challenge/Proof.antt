@@ -8,37 +8,30 @@ use Rattle.authorization_query.specs.Reading.{challenge_in}
 use Rattle.authorization_query.proofs.is_bad_challenge.Statement.{statement}
 use Rattle.authorization_query.proofs.is_bad_challenge.Tie as tie
 
-abbrev start : tie.After-is-missing → tie.Start
-start c = c.before.before.before.before.before
+came : (c : tie.After-is_missing) → is_missing (challenge_in c.args.query.now) ≡ c.is_missing.result
+came c = ap is_missing (sym (c.requires.2.stands.at 5 (lit< tt)).value) ∙ sym c.is_missing.ensures
 
-came : (c : tie.After-is-missing) → is_missing (challenge_in (start c).args.query.now) ≡ c.is-missing.result
-came c = ap is_missing (sym ((start c).requires.2.stands.at 5 (lit< tt)).value) ∙ sym c.is-missing.ensures
-
-returns : tie.Need-returns
+returns : tie.Need-returns-then-is_missing
 unfolding is_bad_challenge
 returns c =
-    let none = c.before.before in
-    let method = (start none.before).requires.2.stands.at 6 (lit< tt) in
-    rw (came none.before ∙ none.if1.true, c.before.is-missing2.ensures, c.is-confidential.ensures, method.value)
+    let method = c.requires.2.stands.at 6 (lit< tt) in
+    rw (came c.before.before.before ∙ c.if-is_missing.true, c.is_missing-then-is_missing.ensures, c.is_confidential.ensures, method.value)
 
-challenge-given-requires : tie.Need-challenge-given-requires
-challenge-given-requires c κs = let r = (start c.before).requires.2 in ((r.stands.at 5 (lit< tt)).within, r.short)
+challenge-given-requires : tie.Need-challenge_given-given-requires
+challenge-given-requires c κs = let r = c.requires.2 in ((r.stands.at 5 (lit< tt)).within, r.short)
 
-is-once-requires : tie.Need-is-once-requires
-is-once-requires c κs = ((start c.before.before.before).requires.2.stands.at 6 (lit< tt)).within
+is-once-requires : tie.Need-is_once-requires
+is-once-requires c κs = (c.requires.2.stands.at 6 (lit< tt)).within
 
-returns-2 : tie.Need-returns-2
+returns-2 : tie.Need-returns
 unfolding is_bad_challenge
 returns-2 c =
-    let once = c.before in
-    let given = once.before.before in
-    let some = given.before in
-    let stands = (start some.before).requires.2.stands in
-    rw (came some.before ∙ some.if1.false, given.challenge-given.ensures, once.is-once.ensures)
+    let stands = c.requires.2.stands in
+    rw (came c.before.before.before.before.before.before ∙ c.if-is_missing.false, c.challenge_given-given.ensures, c.is_once.ensures)
     (rw ((stands.at 5 (lit< tt)).value, (stands.at 6 (lit< tt)).value))
 
-pub is-bad-challenge-spec : {M : Type 1} → statement M
-is-bad-challenge-spec =
+pub is_bad_challenge_spec : {M : Type 1} → statement M
+is_bad_challenge_spec =
     tie.close
     (tie.spec
     (λ c. search rules)
@@ -48,6 +41,5 @@ is-bad-challenge-spec =
     (λ c κs. search rules)
     returns
     challenge-given-requires
-    (λ c. search rules)
     is-once-requires
     returns-2)

@@ -19,15 +19,6 @@ use Rattle.authorization_query.proofs.read_places.Tie as tie
 
 -- ---- places
 
-abbrev start : tie.After-client-named → tie.Start
-start c = c.before.before.before.before
-
-abbrev found : tie.After-is-repeated → tie.After-client
-found c = c.before.before.before
-
-abbrev asking : tie.After-client → tie.Start
-asking c = start c.before.before
-
 abbrev registry_in : tie.Start → List ℕ
 registry_in s = s.args.registry.now
 
@@ -39,88 +30,76 @@ clients_in s = clients_of (registry_in s)
 
 -- ---- the tests
 
-sought : (c : tie.After-client-named) → c.client-named.result ≡ find_client (registry_in (start c)) (only_value (id_in (query_in (start c))))
+sought : (c : tie.After-client_named) → c.client_named.result ≡ find_client (registry_in c.before.before.before.before) (only_value (id_in (query_in c.before.before.before.before)))
 sought c =
-    let said = ((start c).requires.1.stands.at 1 (lit< tt)).value in
-    c.client-named.ensures ∙ ap (λ (v : Value). find_client (registry_in (start c)) (only_value v)) said
+    let said = (c.requires.1.stands.at 1 (lit< tt)).value in
+    c.client_named.ensures ∙ ap (λ (v : Value). find_client (registry_in c.before.before.before.before) (only_value v)) said
 
-is_at : (c : tie.After-client) → find_client (registry_in (asking c)) (only_value (id_in (query_in (asking c)))) ≡ At c.client.given.0.0
-is_at c = sym (sought c.before.before) ∙ c.client.given.1
+is_at : (c : tie.In-At) → find_client (registry_in c.before.before.before.before.before) (only_value (id_in (query_in c.before.before.before.before.before))) ≡ At c.in-At.client
+is_at c = sym (sought c.before) ∙ c.in-At.is
 
-its : (c : tie.After-client) → Named (registry_in (asking c)) (query_in (asking c)) c.client.given.0.0
-its c = named (registry_in (asking c)) (query_in (asking c)) (asking c).requires.0 _ (is_at c)
+its : (c : tie.In-At) → Named (registry_in c.before.before.before.before.before) (query_in c.before.before.before.before.before) c.in-At.client
+its c = named (registry_in c.before.before.before.before.before) (query_in c.before.before.before.before.before) c.requires.0 _ (is_at c)
 
-twice : (c : tie.After-is-repeated) → is_repeated (redirect_in (query_in (asking (found c)))) ≡ c.is-repeated.result
-twice c = ap is_repeated (sym ((asking (found c)).requires.1.stands.at 2 (lit< tt)).value) ∙ sym c.is-repeated.ensures
+twice : (c : tie.After-is_repeated) → is_repeated (redirect_in (query_in c.before.before.before.before.before.before.before)) ≡ c.is_repeated.result
+twice c = ap is_repeated (sym (c.requires.1.stands.at 2 (lit< tt)).value) ∙ sym c.is_repeated.ensures
 
-once : (c : tie.Else1) → let s = asking (found c.before) in is_bad_client (clients_in s) (query_in s) ≡ false
+once : (c : tie.Else-is_repeated) → is_bad_client (clients_in c.before.before.before.before.before.before.before.before) (query_in c.before.before.before.before.before.before.before.before) ≡ false
 once c =
-    let s = asking (found c.before) in
-    good-client (registry_in s) (query_in s) s.pre.0 _ (is_at (found c.before)) (twice c.before ∙ c.if1.false)
+    good-client (registry_in c.before.before.before.before.before.before.before.before) (query_in c.before.before.before.before.before.before.before.before) c.requires.0 _ (is_at c.before.before.before) (twice c.before ∙ c.if-is_repeated.false)
 
-other : (c : tie.After-is-bad-redirect)
-    → let s = asking (found c.before.before) in is_bad_redirect (client_named (clients_in s) (query_in s)) (query_in s) ≡ c.is-bad-redirect.result
+other : (c : tie.After-is_bad_redirect)
+    → is_bad_redirect (client_named (clients_in c.before.before.before.before.before.before.before.before.before) (query_in c.before.before.before.before.before.before.before.before.before)) (query_in c.before.before.before.before.before.before.before.before.before) ≡ c.is_bad_redirect.result
 other c =
-    let client = found c.before.before in
-    let s = asking client in
-    ap (λ (n : ℕ). is_bad_redirect (client_at (clients_in s) n) (query_in s)) (sym (its client).number) ∙ sym c.is-bad-redirect.ensures
+    ap (λ (n : ℕ). is_bad_redirect (client_at (clients_in c.before.before.before.before.before.before.before.before.before) n) (query_in c.before.before.before.before.before.before.before.before.before)) (sym (its c.before.before.before.before).number) ∙ sym c.is_bad_redirect.ensures
 
 -- ---- the answers
 
-client-named-requires : tie.Need-client-named-requires
-client-named-requires c κs = let s = c.before.before.before in (s.requires.0, (s.requires.1.stands.at 1 (lit< tt)).within, s.requires.1.short)
+client-named-requires : tie.Need-client_named-requires
+client-named-requires c κs = (c.requires.0, (c.requires.1.stands.at 1 (lit< tt)).within, c.requires.1.short)
 
-returns : tie.Need-returns
+returns : tie.Need-returns-in_default
 unfolding page_reasons
 returns c =
-    let named = c.before.before in
-    let s = start named in
-    let refused = unknown-client (registry_in s) (query_in s) (sym (sought named) ∙ c.enum_told.given.1) in
-    read-page (registry_in s) (query_in s) _ _ _ (pass (good-query _ _ s.pre.1) (stop refused))
+    let refused = unknown-client (registry_in c.before.before.before.before.before) (query_in c.before.before.before.before.before) (sym (sought c.before) ∙ c.in_default.is) in
+    read-page (registry_in c.before.before.before.before.before) (query_in c.before.before.before.before.before) _ _ _ (pass (good-query _ _ c.requires.1) (stop refused))
 
-returns-2 : tie.Need-returns-2
+returns-2 : tie.Need-returns-then-is_repeated
 unfolding page_reasons
 returns-2 c =
-    let s = asking (found c.before) in
-    let refused = repeated-redirect (registry_in s) (query_in s) (twice c.before ∙ c.if1.true) in
-    read-page (registry_in s) (query_in s) _ _ _ (pass (good-query _ _ s.pre.1) (stop refused))
+    let refused = repeated-redirect (registry_in c.before.before.before.before.before.before.before.before) (query_in c.before.before.before.before.before.before.before.before) (twice c.before ∙ c.if-is_repeated.true) in
+    read-page (registry_in c.before.before.before.before.before.before.before.before) (query_in c.before.before.before.before.before.before.before.before) _ _ _ (pass (good-query _ _ c.requires.1) (stop refused))
 
-is-bad-redirect-requires : tie.Need-is-bad-redirect-requires
-is-bad-redirect-requires c κs = let client = found c.before in ((asking client).pre.0, (its client).entry, (asking client).pre.1)
+is-bad-redirect-requires : tie.Need-is_bad_redirect-requires
+is-bad-redirect-requires c κs = (c.requires.0, (its c.before.before.before).entry, c.requires.1)
 
-returns-3 : tie.Need-returns-3
+returns-3 : tie.Need-returns-then-is_bad_redirect
 unfolding page_reasons
 returns-3 c =
-    let past = c.before.before in
-    let s = asking (found past.before) in
-    read-page (registry_in s) (query_in s) _ _ _ (pass (good-query _ _ s.pre.1) (pass (once past) (stop (other c.before ∙ c.if2.true))))
+    read-page (registry_in c.before.before.before.before.before.before.before.before.before.before) (query_in c.before.before.before.before.before.before.before.before.before.before) _ _ _ (pass (good-query _ _ c.requires.1) (pass (once c.before.before) (stop (other c.before ∙ c.if-is_bad_redirect.true))))
 
-ask-requires : tie.Need-ask-requires
-ask-requires c κs = let client = found c.before.before.before in ((asking client).pre.0, its client, (asking client).pre.1)
+ask-requires : tie.Need-ask-request-requires
+ask-requires c κs = (c.requires.0, its c.before.before.before.before.before, c.requires.1)
 
-returns-4 : tie.Need-returns-4
+returns-4 : tie.Need-returns
 returns-4 c =
-    let agreed = c.before.before.before in
-    let past = agreed.before.before in
-    let client = found past.before in
-    let s = asking client in
-    let state = s.pre.1.stands.at 4 (lit< tt) in
-    let challenge = s.pre.1.stands.at 5 (lit< tt) in
-    read-client (registry_in s) (query_in s) _ _ _ (good-query _ _ s.pre.1) (once past)
-    (other agreed.before ∙ agreed.if2.false)
-    c.before.before.ask.ensures
+    let state = c.requires.1.stands.at 4 (lit< tt) in
+    let challenge = c.requires.1.stands.at 5 (lit< tt) in
+    read-client (registry_in c.before.before.before.before.before.before.before.before.before.before.before.before.before) (query_in c.before.before.before.before.before.before.before.before.before.before.before.before.before) _ _ _ (good-query _ _ c.requires.1) (once c.before.before.before.before.before)
+    (other c.before.before.before.before ∙ c.if-is_bad_redirect.false)
+    c.ask-request.ensures
     (record {
-      entry = (its client).entry;
-      number = (its client).number;
-      short = s.pre.1.short;
+      entry = (its c.before.before.before.before.before.before.before.before).entry;
+      number = (its c.before.before.before.before.before.before.before.before).number;
+      short = c.requires.1.short;
       within = state.within;
       state = state.value;
       challenge_within = challenge.within;
       challenge = challenge.value;
     })
 
-pub read-places-spec : {M : Type 1} → statement M
-read-places-spec =
+pub read_places_spec : {M : Type 1} → statement M
+read_places_spec =
     tie.close
     (tie.spec
     (λ c. search rules)

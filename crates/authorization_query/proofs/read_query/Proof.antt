@@ -15,35 +15,29 @@ names : Known (bytes "response_type&client_id&redirect_uri&scope&state&code_chal
 unfolding distinct every same split_on grow
 names = record { parted = refl; apart = refl; few = refl }
 
-returns : tie.Need-returns
+returns : tie.Need-returns-then-query-gt-MOST_FORM
 unfolding page_reasons
 returns c =
-    let a = c.before.before.before.args in
-    read-page a.registry.now a.query.now _ _ _ (stop (too_long a.query.now c.if1.true))
+    let a = c.args in
+    read-page a.registry.now a.query.now _ _ _ (stop (too_long a.query.now c.if-query-gt-MOST_FORM.true))
 
-abbrev start : tie.After-read → tie.Start
-start c = c.before.before.before.before.before
-
-returns-2 : tie.Need-returns-2
+returns-2 : tie.Need-returns-in_default
 unfolding page_reasons
 returns-2 c =
-    let read = c.before.before in
-    let a = (start read).args in
+    let a = c.args in
     read-page a.registry.now a.query.now _ _ _
-    (stop (malformed a.query.now (read.read.ensures.1.malformed c.enum-told2.given.1)))
+    (stop (malformed a.query.now (c.read-form.ensures.1.malformed c.in_default.is)))
 
-read-places-requires : tie.Need-read-places-requires
+read-places-requires : tie.Need-read_places-requires
 read-places-requires c κs =
-    let read = c.before.before.before in
-    let stands = read.read.ensures.1.stands c.before.enum_told.given.1 query_names names in
-    ((start read).requires, record { short = read.before.before.if1.false; stands = stands })
+    let stands = c.read-form.ensures.1.stands c.in-WellFormed.is query_names names in
+    (c.requires, record { short = c.if-query-gt-MOST_FORM.false; stands = stands })
 
-pub read-query-spec : {M : Type 1} → statement M
-read-query-spec =
+pub read_query_spec : {M : Type 1} → statement M
+read_query_spec =
     tie.close
     (tie.spec
     returns
-    (λ c. search rules)
     (λ c κs. search rules)
     (λ c. search rules)
     (λ c. search rules)

@@ -10,22 +10,19 @@ use Rattle.error_words.proofs.append_word.Tie as tie
 
 append-requires : tie.Need-append-requires
 append-requires c κs =
-    let start = c.before.before.before.before.before in
-    rw (row-text start.args.word c.before.before.before.row_of.ensures) (omega (arith, word-length start.args.word, start.requires))
+    rw (row-text c.args.word c.row_of-count.ensures) (omega (arith, word-length c.args.word, c.requires))
 
 returns : tie.Need-returns
 returns c =
-    let lent = c.before.before.before in
-    let told = lent.before.before.before in
-    rw (row-text told.before.before.args.word told.row_of.ensures) at c.before.before.append.ensures
+    rw (row-text c.args.word c.row_of-count.ensures) at c.append.ensures
 
-pub append-word-spec : {M : Type 1} → statement M
-append-word-spec =
+pub append_word_spec : {M : Type 1} → statement M
+append_word_spec =
     tie.close
     (tie.spec
     (λ c κs. search rules)
-    (λ c. row_room _ c.before.before.row_of.ensures)
-    (λ c. sym (length-take-le _ _ (row_room _ c.before.before.before.row_of.ensures)))
+    (λ c. row_room _ c.row_of-count.ensures)
+    (λ c. sym (length-take-le _ _ (row_room _ c.row_of-count.ensures)))
     append-requires
     (λ c. search rules)
     returns)

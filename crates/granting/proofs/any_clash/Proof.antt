@@ -4,7 +4,7 @@ use Rattle.granting.proofs.any_clash.Statement.{statement}
 use Rattle.granting.proofs.any_clash.Tie as tie
 
 returns : tie.Need-returns
-returns c = rw (c.before.before.clashes.ensures, c.before.clashes2.ensures, c.equal.ensures)
+returns c = rw (c.clashes-one.ensures, c.clashes-other.ensures, c.equal.ensures)
 
-pub any-clash-spec : {M : Type 1} → statement M
-any-clash-spec = tie.close (tie.spec (λ c κs. search rules) (λ c κs. search rules) (λ c κs. search rules) returns)
+pub any_clash_spec : {M : Type 1} → statement M
+any_clash_spec = tie.close (tie.spec (λ c κs. search rules) (λ c κs. search rules) (λ c κs. search rules) returns)

@@ -12,53 +12,50 @@ use Rattle.granting.proofs.Plans.{refuses}
 use Rattle.granting.proofs.grant.Statement.{statement}
 use Rattle.granting.proofs.grant.Tie as tie
 
-abbrev start : tie.After-challenge → tie.Start
-start c = c.before.before.before.before
-
 -- what each grant asks for, by the kind of request
 allowed : (s : tie.Start) {q : Request} → s.args.reading.request ≡ q
     → (length s.args.store.now ≡ store_size) × (s.args.t ≤ latest_time) × (random_needed q ≤ length s.args.random.now)
 allowed s e = (s.requires.0, s.requires.1, subst (λ (q : Request). random_needed q ≤ length s.args.random.now) e s.requires.2)
 
-grant-code-requires : tie.Need-grant-code-requires
-grant-code-requires c κs = let told = c.before.before in allowed (start told.before.before) told.request2.given.1
+grant-code-requires : tie.Need-grant_code-requires
+grant-code-requires c κs = allowed c.before.before.before.before.before.before c.in-Code.is
 
-grant-exchange-requires : tie.Need-grant-exchange-requires
-grant-exchange-requires c κs = let told = c.before.before in allowed (start told.before.before) told.request3.given.1
+grant-exchange-requires : tie.Need-grant_exchange-requires
+grant-exchange-requires c κs = allowed c.before.before.before.before.before.before c.in-Exchange.is
 
-grant-refresh-requires : tie.Need-grant-refresh-requires
-grant-refresh-requires c κs = let told = c.before.before in allowed (start told.before.before) told.request4.given.1
+grant-refresh-requires : tie.Need-grant_refresh-requires
+grant-refresh-requires c κs = allowed c.before.before.before.before.before.before c.in-Refresh.is
 
-grant-credentials-requires : tie.Need-grant-credentials-requires
-grant-credentials-requires c κs = let told = c.before.before in allowed (start told.before.before) told.request5.given.1
+grant-credentials-requires : tie.Need-grant_credentials-requires
+grant-credentials-requires c κs = allowed c.before.before.before.before.before.before c.in-Credentials.is
 
-returns : tie.Need-returns
+returns : tie.Need-returns-in-Refused
 unfolding plan_for refused_plan
-returns c = rw c.before.before.request.given.1 (refuses (stop refl) c.refused.ensures refl)
+returns c = rw c.in-Refused.is (refuses (stop refl) c.refused.ensures refl)
 
-returns-2 : tie.Need-returns-2
+returns-2 : tie.Need-returns-in-Code
 unfolding plan_for
-returns-2 c = let done = c.before.before in rw done.before.before.before.request2.given.1 done.grant-code.ensures
+returns-2 c = rw c.in-Code.is c.grant_code.ensures
 
-returns-3 : tie.Need-returns-3
+returns-3 : tie.Need-returns-in-Exchange
 unfolding plan_for
-returns-3 c = let done = c.before.before in rw done.before.before.before.request3.given.1 done.grant-exchange.ensures
+returns-3 c = rw c.in-Exchange.is c.grant_exchange.ensures
 
-returns-4 : tie.Need-returns-4
+returns-4 : tie.Need-returns-in-Refresh
 unfolding plan_for
-returns-4 c = let done = c.before.before in rw done.before.before.before.request4.given.1 done.grant-refresh.ensures
+returns-4 c = rw c.in-Refresh.is c.grant_refresh.ensures
 
-returns-5 : tie.Need-returns-5
+returns-5 : tie.Need-returns-in-Credentials
 unfolding plan_for
-returns-5 c = let done = c.before.before in rw done.before.before.before.request5.given.1 done.grant-credentials.ensures
+returns-5 c = rw c.in-Credentials.is c.grant_credentials.ensures
 
 -- a revocation looks at no random bytes: its plan is the same for any
-returns-6 : tie.Need-returns-6
+returns-6 : tie.Need-returns-in-Revocation
 unfolding plan_for revocation_plan
-returns-6 c = let done = c.before.before in rw done.before.before.before.request6.given.1 done.revoke.ensures
+returns-6 c = rw c.in-Revocation.is c.revoke.ensures
 
-pub grant-spec : {M : Type 1} → statement M
-grant-spec =
+pub grant_spec : {M : Type 1} → statement M
+grant_spec =
     tie.close
     (tie.spec
     (λ c. search rules)

@@ -7,9 +7,8 @@ use Rattle.granting.proofs.grant_code.Tie as tie
 returns : tie.Need-returns
 unfolding code_plan
 returns c =
-    let done = c.before.before in
-    rw (done.before.new-code.ensures, done.before.before.before.handle-at.ensures) at done.grant-single.ensures
+    rw (c.new_code.ensures, c.handle_at-handle.ensures) at c.grant_single.ensures
 
-pub grant-code-spec : {M : Type 1} → statement M
-grant-code-spec =
+pub grant_code_spec : {M : Type 1} → statement M
+grant_code_spec =
     tie.close (tie.spec (λ c κs. search rules) (λ c κs. search rules) (λ c κs. search rules) (λ c. search rules) returns)

@@ -7,9 +7,8 @@ use Rattle.granting.proofs.grant_credentials.Tie as tie
 returns : tie.Need-returns
 unfolding credentials_plan
 returns c =
-    let done = c.before.before in
-    rw (done.before.client-token.ensures, done.before.before.before.handle-at.ensures) at done.grant-access.ensures
+    rw (c.client_token.ensures, c.handle_at-handle.ensures) at c.grant_access.ensures
 
-pub grant-credentials-spec : {M : Type 1} → statement M
-grant-credentials-spec =
+pub grant_credentials_spec : {M : Type 1} → statement M
+grant_credentials_spec =
     tie.close (tie.spec (λ c κs. search rules) (λ c κs. search rules) (λ c κs. search rules) (λ c. search rules) returns)

@@ -18,9 +18,6 @@ use Rattle.granting.proofs.Plans.{Own, own-found, own-none, found-keeps, Past, r
 use Rattle.granting.proofs.grant_exchange.Statement.{statement}
 use Rattle.granting.proofs.grant_exchange.Tie as tie
 
-abbrev start : tie.After-find-own → tie.Start
-start c = c.before.before.before.before
-
 abbrev slots_of : tie.Start → List Slot
 slots_of s = (decode s.args.store.now).slots
 
@@ -29,172 +26,125 @@ plan_at s = exchange_plan s.args.t (slots_of s) s.args.random.now s.args.present
 
 -- ---- the client's own code is found
 
-abbrev looked : tie.After-i → tie.Start
-looked c = start c.before.before
+own : (c : tie.In-At)
+    → let a = c.args in
+    Own a.t a.request.client Code a.presented (slots_of c.before.before.before.before) c.in-At.i
+own c = own-found _ _ _ _ _ _ (sym c.in-At.is ∙ c.find_own.ensures)
 
-own : (c : tie.After-i)
-    → let a = (looked c).args in
-    Own a.t a.request.client Code a.presented (slots_of (looked c)) c.i.given.0.0
-own c = own-found _ _ _ _ _ _ (sym c.i.given.1 ∙ c.before.before.find-own.ensures)
-
-past-own : (c : tie.After-i) {d : Decision} → Past 1 (plan_at (looked c)) d
+past-own : (c : tie.In-At) {d : Decision} → Past 1 (plan_at c.before.before.before.before) d
 unfolding exchange_plan
 past-own c = pass (ap not (own c).own)
 
-abbrev found : tie.After-slot-at → tie.After-i
-found c = c.before.before.before
-
-code : (c : tie.After-slot-at) → c.slot_at.result ≡ shown_slot Code (looked (found c)).args.presented (slots_of (looked (found c)))
-code c = c.slot_at.ensures ∙ sym (own (found c)).first.taken
+code : (c : tie.After-slot_at-code) → c.slot_at-code.result ≡ shown_slot Code c.args.presented (slots_of c.before.before.before.before.before)
+code c = c.slot_at-code.ensures ∙ sym (own c.before).first.taken
 
 -- ---- it is not bound, or its redirect address came again
 
-abbrev told : tie.After-is-bound-code → tie.After-slot-at
-told c = c.before
-
-missed : (c : tie.After-is-bound-code)
-    → let s = looked (found (told c)) in
-    (is_bound_code (shown_slot Code s.args.presented (slots_of s)) && not s.args.request.again)
-    ≡ (c.is-bound-code.result && not s.args.request.again)
+missed : (c : tie.After-is_bound_code)
+    → (is_bound_code (shown_slot Code c.args.presented (slots_of c.before.before.before.before.before.before)) && not c.args.request.again)
+    ≡ (c.is_bound_code.result && not c.args.request.again)
 missed c =
-    ap (λ (b : Bool). b && not (looked (found (told c))).args.request.again)
-    (ap is_bound_code (sym (code (told c))) ∙ sym c.is-bound-code.ensures)
+    ap (λ (b : Bool). b && not c.args.request.again)
+    (ap is_bound_code (sym (code c.before)) ∙ sym c.is_bound_code.ensures)
 
-abbrev read : tie.Else1 → tie.After-slot-at
-read c = told c.before.before
-
-past-address : (c : tie.Else1) {d : Decision} → Past 2 (plan_at (looked (found (read c)))) d
+past-address : (c : tie.Else-is_bound_code-request) {d : Decision} → Past 2 (plan_at c.before.before.before.before.before.before.before.before) d
 unfolding exchange_plan
-past-address c f = past-own (found (read c)) (pass (missed c.before.before ∙ c.if1.false) f)
+past-address c f = past-own c.before.before.before.before (pass (missed c.before.before ∙ c.if-is_bound_code-request.false) f)
 
 -- a refusal leaves the slots
-kept : (c : tie.After-i) → let s = looked c in decode s.args.store.now ≡ with_slots (decode s.args.store.now) (plan_at s).denied
+kept : (c : tie.In-At) → decode c.args.store.now ≡ with_slots (decode c.args.store.now) (plan_at c.before.before.before.before).denied
 unfolding exchange_plan
 kept c =
-    let s = looked c in
-    ap (with_slots (decode s.args.store.now)) (found-keeps s.args.t s.args.request.client s.args.presented (slots_of s) (own c).first.some)
+    ap (with_slots (decode c.args.store.now)) (found-keeps c.args.t c.args.request.client c.args.presented (slots_of c.before.before.before.before) (own c).first.some)
 
 -- ---- it has no challenge, or the one that is answered
 
-unverified : (c : tie.After-is-unverified)
-    → let s = looked (found (read c.before)) in
-    is_unverified s.args.answered (shown_slot Code s.args.presented (slots_of s)) ≡ c.is-unverified.result
+unverified : (c : tie.After-is_unverified)
+    → is_unverified c.args.answered (shown_slot Code c.args.presented (slots_of c.before.before.before.before.before.before.before.before.before)) ≡ c.is_unverified.result
 unverified c =
-    let s = looked (found (read c.before)) in
-    ap (is_unverified s.args.answered) (sym (code (read c.before))) ∙ sym c.is-unverified.ensures
+    ap (is_unverified c.args.answered) (sym (code c.before.before.before.before)) ∙ sym c.is_unverified.ensures
 
-abbrev shown_in : tie.Else2 → tie.After-slot-at
-shown_in c = read c.before.before
-
-past-verifier : (c : tie.Else2) {d : Decision} → Past 3 (plan_at (looked (found (shown_in c)))) d
+past-verifier : (c : tie.Else-is_unverified) {d : Decision} → Past 3 (plan_at c.before.before.before.before.before.before.before.before.before.before) d
 unfolding exchange_plan
-past-verifier c f = past-address c.before.before (pass (unverified c.before ∙ c.if2.false) f)
+past-verifier c f = past-address c.before.before (pass (unverified c.before ∙ c.if-is_unverified.false) f)
 
 -- ---- there is room besides it
 
-abbrev sound : tie.After-has-room → tie.Else2
-sound c = c.before.before
-
-abbrev begun : tie.After-has-room → tie.Start
-begun c = looked (found (shown_in (sound c)))
-
-full : (c : tie.After-has-room)
-    → let a = (begun c).args in
-    not (leb 2 (room a.t (slots_of (begun c)))) ≡ not c.has_room.result
+full : (c : tie.After-has_room)
+    → let a = c.args in
+    not (leb 2 (room a.t (slots_of c.before.before.before.before.before.before.before.before.before.before.before))) ≡ not c.has_room.result
 full c = ap not (sym c.has_room.ensures)
 
-past_room : (c : tie.Else3) {d : Decision} → Past 4 (plan_at (begun c.before)) d
+past_room : (c : tie.Else-not-has_room) {d : Decision} → Past 4 (plan_at c.before.before.before.before.before.before.before.before.before.before.before.before) d
 unfolding exchange_plan
-past_room c f = past-verifier (sound c.before) (pass (full c.before ∙ c.if3.false) f)
+past_room c f = past-verifier c.before.before (pass (full c.before ∙ c.if-not-has_room.false-raw) f)
 
 -- ---- no handle is in use, and they differ
 
-abbrev drawn : tie.After-any-clash → tie.After-handle-at2
-drawn c = c.before.before.before.before
-
-abbrev roomy : tie.After-any-clash → tie.Else3
-roomy c = (drawn c).before.before
-
-taken : (c : tie.After-any-clash)
-    → let s = begun (roomy c).before in
-    any_taken (first_handle s.args.random.now) (second_handle s.args.random.now) (slots_of s) ≡ c.any-clash.result
+taken : (c : tie.After-any_clash)
+    → any_taken (first_handle c.args.random.now) (second_handle c.args.random.now) (slots_of c.before.before.before.before.before.before.before.before.before.before.before.before.before.before.before.before.before) ≡ c.any_clash.result
 taken c =
-    let s = begun (roomy c).before in
-    sym (c.any-clash.ensures
-    ∙ ap₂ (λ (x y : List ℕ). any_taken x y (slots_of s)) (drawn c).before.handle-at.ensures (drawn c).handle-at2.ensures)
+    sym (c.any_clash.ensures
+    ∙ ap₂ (λ (x y : List ℕ). any_taken x y (slots_of c.before.before.before.before.before.before.before.before.before.before.before.before.before.before.before.before.before)) c.handle_at-first.ensures c.handle_at-second.ensures)
 
 -- ---- the needs
 
-returns : tie.Need-returns
+returns : tie.Need-returns-in_default
 unfolding exchange_plan
 returns c =
-    let withdrawn = c.before.before.before in
-    let told = withdrawn.before.before in
-    let looked = told.before.before in
-    let a = (start looked).args in
-    let nothing = sym told.enum_told.given.1 ∙ looked.find-own.ensures in
+    let a = c.args in
+    let nothing = sym c.in_default.is ∙ c.find_own.ensures in
     refuses (stop (ap not (own-none a.t a.request.client Code a.presented a.store.now nothing))) c.refused.ensures
-    withdrawn.withdraw-shown-again.ensures
+    c.withdraw_shown_again.ensures
 
-slot-at-requires : tie.Need-slot-at-requires
-slot-at-requires c κs = let at = c.before.before in ((looked at).requires.0, (own at).first.below)
+slot-at-requires : tie.Need-slot_at-code-requires
+slot-at-requires c κs = (c.requires.0, (own c).first.below)
 
-returns-2 : tie.Need-returns-2
+returns-2 : tie.Need-returns-then-is_bound_code-request
 unfolding exchange_plan
 returns-2 c =
-    let bound = c.before.before.before in
-    let shown = told bound in
-    refuses (past-own (found shown) (stop (missed bound ∙ c.before.if1.true))) c.refused2.ensures (kept (found shown))
+    refuses (past-own c.before.before.before.before.before (stop (missed c.before.before.before ∙ c.if-is_bound_code-request.true))) c.refused-then-is_bound_code-request.ensures (kept c.before.before.before.before.before)
 
-returns-3 : tie.Need-returns-3
+returns-3 : tie.Need-returns-then-is_unverified
 unfolding exchange_plan
 returns-3 c =
-    let tested = c.before.before in
-    refuses (past-address tested.before (stop (unverified tested ∙ c.before.if2.true))) c.refused3.ensures
-    (kept (found (read tested.before)))
+    refuses (past-address c.before.before.before (stop (unverified c.before.before ∙ c.if-is_unverified.true))) c.refused-then-is_unverified.ensures
+    (kept c.before.before.before.before.before.before.before)
 
-returns-4 : tie.Need-returns-4
+returns-4 : tie.Need-returns-then-not-has_room
 unfolding exchange_plan
 returns-4 c =
-    let tested = c.before.before in
-    refuses (past-verifier (sound tested) (stop (full tested ∙ c.before.if3.true))) c.refused4.ensures
-    (kept (found (shown_in (sound tested))))
+    refuses (past-verifier c.before.before.before (stop (full c.before.before ∙ c.if-not-has_room.true-raw))) c.refused-then-not-has_room.ensures
+    (kept c.before.before.before.before.before.before.before.before.before)
 
-any-clash-requires : tie.Need-any-clash-requires
-any-clash-requires c κs = let roomy = c.before.before.before.before.before in (looked (found (shown_in (sound roomy.before)))).requires.0
+any-clash-requires : tie.Need-any_clash-requires
+any-clash-requires c κs = c.requires.0
 
-returns-5 : tie.Need-returns-5
+returns-5 : tie.Need-returns-then-any_clash
 unfolding exchange_plan
 returns-5 c =
-    let tested = c.before.before in
-    let code = found (shown_in (sound (roomy tested).before)) in
-    refuses (past_room (roomy tested) (stop (taken tested ∙ c.before.if4.true))) c.refused5.ensures (kept code)
+    refuses (past_room c.before.before.before.before.before.before.before (stop (taken c.before.before ∙ c.if-any_clash.true))) c.refused-then-any_clash.ensures (kept c.before.before.before.before.before.before.before.before.before.before.before.before.before.before.before)
 
 spend-requires : tie.Need-spend-requires
 spend-requires c κs =
-    let at = found (shown_in (sound (roomy c.before.before).before)) in
-    ((looked at).pre.0, (looked at).pre.1, (own at).first.below)
+    (c.requires.0, c.requires.1, (own c.before.before.before.before.before.before.before.before.before.before.before.before.before.before.before).first.below)
 
-returns-6 : tie.Need-returns-6
+returns-6 : tie.Need-returns
 unfolding exchange_plan
 returns-6 c =
-    let spent = c.before.before.before in
-    let tested = spent.before.before.before in
-    let made = drawn tested in
-    let shown = shown_in (sound (roomy tested).before) in
-    let a = (looked (found shown)).args in
-    let here : Slot = shown_slot Code a.presented (slots_of (looked (found shown))) in
-    grants (past_room (roomy tested) (pass (taken tested ∙ spent.before.before.if4.false) none))
-    (c.issued.ensures ∙ rw (code shown))
-    (spent.spend.ensures
+    let a = c.args in
+    let here : Slot = shown_slot Code a.presented (slots_of c.before.before.before.before.before.before.before.before.before.before.before.before.before.before.before.before.before.before.before.before.before.before.before) in
+    grants (past_room c.before.before.before.before.before.before.before.before.before.before.before (pass (taken c.before.before.before.before.before.before ∙ c.if-any_clash.false) none))
+    (c.issued.ensures ∙ rw (code c.before.before.before.before.before.before.before.before.before.before.before.before.before.before.before.before.before.before))
+    (c.spend.ensures
     ∙ (λ j. with_slots (decode a.store.now)
-    (spent_on a.t (made.before.handle-at.ensures j) (made.handle-at2.ensures j) (code shown j)
-    (set (slots_of (looked (found shown))) (found shown).i.given.0.0 (spent_code (code shown j)))))
+    (spent_on a.t (c.handle_at-first.ensures j) (c.handle_at-second.ensures j) (code c.before.before.before.before.before.before.before.before.before.before.before.before.before.before.before.before.before.before j)
+    (set (slots_of c.before.before.before.before.before.before.before.before.before.before.before.before.before.before.before.before.before.before.before.before.before.before.before) c.in-At.i (spent_code (code c.before.before.before.before.before.before.before.before.before.before.before.before.before.before.before.before.before.before j)))))
     ∙ ap (λ (l : List Slot). with_slots (decode a.store.now) (spent_on a.t (first_handle a.random.now) (second_handle a.random.now) here l))
-    (sym ((own (found shown)).first.replaced (spent_code here))))
+    (sym ((own c.before.before.before.before.before.before.before.before.before.before.before.before.before.before.before.before.before.before.before).first.replaced (spent_code here))))
 
-pub grant-exchange-spec : {M : Type 1} → statement M
-grant-exchange-spec =
+pub grant_exchange_spec : {M : Type 1} → statement M
+grant_exchange_spec =
     tie.close
     (tie.spec
     (λ c κs. search rules)

@@ -15,9 +15,6 @@ use Rattle.granting.proofs.Plans.{Own, own-found, own-none, Past, refuses, follo
 use Rattle.granting.proofs.grant_refresh.Statement.{statement}
 use Rattle.granting.proofs.grant_refresh.Tie as tie
 
-abbrev start : tie.After-find-own → tie.Start
-start c = c.before.before.before.before
-
 abbrev slots_of : tie.Start → List Slot
 slots_of s = (decode s.args.store.now).slots
 
@@ -26,92 +23,70 @@ plan_at s = refresh_plan s.args.t (slots_of s) s.args.random.now s.args.presente
 
 -- ---- the client's own token is found
 
-abbrev looked : tie.After-i → tie.Start
-looked c = start c.before.before
+own : (c : tie.In-At)
+    → let a = c.args in
+    Own a.t a.request.client Refresh a.presented (slots_of c.before.before.before.before) c.in-At.i
+own c = own-found _ _ _ _ _ _ (sym c.in-At.is ∙ c.find_own.ensures)
 
-own : (c : tie.After-i)
-    → let a = (looked c).args in
-    Own a.t a.request.client Refresh a.presented (slots_of (looked c)) c.i.given.0.0
-own c = own-found _ _ _ _ _ _ (sym c.i.given.1 ∙ c.before.before.find-own.ensures)
-
-past-own : (c : tie.After-i) {d : Decision} → Past 1 (plan_at (looked c)) d
+past-own : (c : tie.In-At) {d : Decision} → Past 1 (plan_at c.before.before.before.before) d
 unfolding refresh_plan
 past-own c = pass (ap not (own c).own)
 
-abbrev found : tie.After-slot-at → tie.After-i
-found c = c.before.before.before
-
-token : (c : tie.After-slot-at) → c.slot_at.result ≡ shown_slot Refresh (looked (found c)).args.presented (slots_of (looked (found c)))
-token c = c.slot_at.ensures ∙ sym (own (found c)).first.taken
+token : (c : tie.After-slot_at-token) → c.slot_at-token.result ≡ shown_slot Refresh c.args.presented (slots_of c.before.before.before.before.before)
+token c = c.slot_at-token.ensures ∙ sym (own c.before).first.taken
 
 -- ---- the scope asked for is within the token's
 
-fitting : (c : tie.After-scope-fits)
-    → let s = looked (found c.before) in
-    not (fits s.args.request.scope (shown_slot Refresh s.args.presented (slots_of s)).scope) ≡ not c.scope-fits.result
+fitting : (c : tie.After-scope_fits)
+    → not (fits c.args.request.scope (shown_slot Refresh c.args.presented (slots_of c.before.before.before.before.before.before)).scope) ≡ not c.scope_fits.result
 fitting c =
-    let asked = (looked (found c.before)).args.request.scope in
-    ap not (sym (c.scope-fits.ensures ∙ ap (λ (s : Slot). fits asked s.scope) (token c.before)))
+    let asked = c.args.request.scope in
+    ap not (sym (c.scope_fits.ensures ∙ ap (λ (c.before.before.before.before.before.before : Slot). fits asked c.scope) (token c.before)))
 
-abbrev read : tie.Else1 → tie.After-slot-at
-read c = c.before.before
-
-past-scope : (c : tie.Else1) {d : Decision} → Past 2 (plan_at (looked (found (read c)))) d
+past-scope : (c : tie.Else-not-scope_fits) {d : Decision} → Past 2 (plan_at c.before.before.before.before.before.before.before) d
 unfolding refresh_plan
-past-scope c f = past-own (found (read c)) (pass (fitting c.before ∙ c.if1.false) f)
+past-scope c f = past-own c.before.before.before (pass (fitting c.before ∙ c.if-not-scope_fits.false-raw) f)
 
 -- ---- what is issued on it
 
-abbrev handled : tie.After-token-on → tie.After-handle-at
-handled c = c.before.before
-
-issued : (c : tie.After-token-on)
-    → let s = looked (found (read (handled c).before.before)) in
-    let shown = shown_slot Refresh s.args.presented (slots_of s) in
-    c.token-on.result
-    ≡ token_on shown (origin_of shown) s.args.t kind_access (first_handle s.args.random.now) (scope_given s.args.request.scope shown.scope)
+issued : (c : tie.After-token_on-access)
+    → let shown = shown_slot Refresh c.args.presented (slots_of c.before.before.before.before.before.before.before.before.before.before.before) in
+    c.token_on-access.result
+    ≡ token_on shown (origin_of shown) c.args.t kind_access (first_handle c.args.random.now) (scope_given c.args.request.scope shown.scope)
 issued c =
-    let drawn = handled c in
-    let given = drawn.before in
-    let s = looked (found (read given.before)) in
-    let shown = token (read given.before) in
-    let origin = c.before.origin.ensures ∙ ap origin_of shown in
-    let scope = given.scope-given.ensures ∙ ap (λ (x : Slot). scope_given s.args.request.scope x.scope) shown in
-    c.token-on.ensures ∙ λ j. token_on (shown j) (origin j) s.args.t kind_access (drawn.handle-at.ensures j) (scope j)
+    let shown = token c.before.before.before.before.before.before in
+    let origin = c.origin-origin.ensures ∙ ap origin_of shown in
+    let scope = c.scope_given-scope.ensures ∙ ap (λ (x : Slot). scope_given c.args.request.scope x.scope) shown in
+    c.token_on-access.ensures ∙ λ j. token_on (shown j) (origin j) c.args.t kind_access (c.handle_at-handle.ensures j) (scope j)
 
 -- ---- the needs
 
-returns : tie.Need-returns
+returns : tie.Need-returns-in_default
 unfolding refresh_plan
 returns c =
-    let looked = c.before.before.before in
-    let a = (start looked).args in
-    let nothing = sym c.before.enum_told.given.1 ∙ looked.find-own.ensures in
+    let a = c.args in
+    let nothing = sym c.in_default.is ∙ c.find_own.ensures in
     refuses (stop (ap not (own-none a.t a.request.client Refresh a.presented a.store.now nothing))) c.refused.ensures refl
 
-slot-at-requires : tie.Need-slot-at-requires
-slot-at-requires c κs = let at = c.before.before in ((looked at).requires.0, (own at).first.below)
+slot-at-requires : tie.Need-slot_at-token-requires
+slot-at-requires c κs = (c.requires.0, (own c).first.below)
 
-returns-2 : tie.Need-returns-2
+returns-2 : tie.Need-returns-then-not-scope_fits
 unfolding refresh_plan
 returns-2 c =
-    let tested = c.before.before in
-    refuses (past-own (found tested.before) (stop (fitting tested ∙ c.before.if1.true))) c.refused2.ensures refl
+    refuses (past-own c.before.before.before.before (stop (fitting c.before.before ∙ c.if-not-scope_fits.true-raw))) c.refused-then-not-scope_fits.ensures refl
 
-grant-access-requires : tie.Need-grant-access-requires
-grant-access-requires c κs = (looked (found (read (handled c.before).before.before))).requires.0
+grant-access-requires : tie.Need-grant_access-requires
+grant-access-requires c κs = c.requires.0
 
-returns-3 : tie.Need-returns-3
+returns-3 : tie.Need-returns
 unfolding refresh_plan
 returns-3 c =
-    let done = c.before.before in
-    let made = done.before.before in
-    let asked = looked (found (read (handled made).before.before)) in
-    follows-later (take 2 (plan_at asked).reasons) (past-scope (handled made).before.before (ends-first _))
-    (rw (issued made) at done.grant-access.ensures)
+    follows-later (take 2 (plan_at c.before.before.before.before.before.before.before.before.before.before.before.before.before.before.before).reasons) (past-scope c.before.before.before.before.before.before.before.before (ends-first _))
+    (rw (issued c.before.before.before.before) at c.grant_access.ensures)
 
-pub grant-refresh-spec : {M : Type 1} → statement M
-grant-refresh-spec =
+pub grant_refresh_spec : {M : Type 1} → statement M
+grant_refresh_spec =
     tie.close
     (tie.spec
     (λ c κs. search rules)

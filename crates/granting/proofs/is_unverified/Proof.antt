@@ -4,7 +4,7 @@ use Rattle.granting.proofs.is_unverified.Statement.{statement}
 use Rattle.granting.proofs.is_unverified.Tie as tie
 
 returns : tie.Need-returns
-returns c = rw (c.before.is-challenged.ensures, c.before.before.equal.ensures)
+returns c = rw (c.is_challenged.ensures, c.equal-equal.ensures)
 
-pub is-unverified-spec : {M : Type 1} → statement M
-is-unverified-spec = tie.close (tie.spec (λ c. search rules) (λ c. search rules) (λ c κs. search rules) (λ c κs. search rules) returns)
+pub is_unverified_spec : {M : Type 1} → statement M
+is_unverified_spec = tie.close (tie.spec (λ c. search rules) (λ c. search rules) (λ c κs. search rules) (λ c κs. search rules) returns)

@@ -18,9 +18,6 @@ use Rattle.granting.proofs.Plans.{dead_keeps, live-frees, others-token, own-toke
 use Rattle.granting.proofs.revoke.Statement.{statement}
 use Rattle.granting.proofs.revoke.Tie as tie
 
-abbrev start : tie.After-find → tie.Start
-start c = c.before.before.before
-
 abbrev slots_of : tie.Start → List Slot
 slots_of s = (decode s.args.store.now).slots
 
@@ -41,81 +38,60 @@ unneeded s dead answer =
 
 -- ---- the token that is found
 
-abbrev looked : tie.After-i → tie.Start
-looked c = start c.before.before
+first : (c : tie.In-At) → First (sought_key Token c.args.presented) (slots_of c.before.before.before) c.in-At.i
+first c = found_first _ _ _ (sym c.find.ensures ∙ c.in-At.is)
 
-first : (c : tie.After-i) → First (sought_key Token (looked c).args.presented) (slots_of (looked c)) c.i.given.0.0
-first c = found_first _ _ _ (sym c.before.before.find.ensures ∙ c.i.given.1)
+token : (c : tie.After-slot_at-token) → c.slot_at-token.result ≡ shown c.before.before.before.before
+token c = c.slot_at-token.ensures ∙ sym (first c.before).taken
 
-abbrev found : tie.After-slot-at → tie.After-i
-found c = c.before.before.before
-
-token : (c : tie.After-slot-at) → c.slot_at.result ≡ shown (looked (found c))
-token c = c.slot_at.ensures ∙ sym (first (found c)).taken
-
-live : (c : tie.After-is-live) → let s = looked (found c.before) in is_live s.args.t (shown s) ≡ c.is_live.result
-live c = ap (is_live (looked (found c.before)).args.t) (sym (token c.before)) ∙ sym c.is_live.ensures
+live : (c : tie.After-is_live) → is_live c.args.t (shown c.before.before.before.before.before) ≡ c.is_live.result
+live c = ap (is_live c.args.t) (sym (token c.before)) ∙ sym c.is_live.ensures
 
 -- ---- it is live, and the client's or another's
 
-abbrev read : tie.Else1 → tie.After-slot-at
-read c = c.before.before
-
-abbrev asked : tie.Else1 → tie.Start
-asked c = looked (found (read c))
-
-alive : (c : tie.Else1) → is_live (asked c).args.t (shown (asked c)) ≡ true
-alive c = live c.before ∙ not-false _ c.if1.false
+alive : (c : tie.Else-not-is_live) → is_live c.args.t (shown c.before.before.before.before.before.before) ≡ true
+alive c = live c.before ∙ not-false _ c.if-not-is_live.false-raw
 
 -- whose the slot found is, the token presented is
-whose : (c : tie.Else1) → (shown (asked c)).client ≡ (read c).slot_at.result.client
-whose c = ap (λ (x : Slot). x.client) (sym (token (read c)))
+whose : (c : tie.Else-not-is_live) → (shown c.before.before.before.before.before.before).client ≡ c.slot_at-token.result.client
+whose c = ap (λ (x : Slot). x.client) (sym (token c.before.before))
 
 -- ---- the needs
 
-returns : tie.Need-returns
+returns : tie.Need-returns-in_default
 returns c =
-    let looked = c.before.before.before in
-    let s = start looked in
-    let none = found_none (sought_key Token s.args.presented) s.args.store.now (sym looked.find.ensures ∙ c.before.enum_told.given.1) in
-    unneeded s (ap (is_live s.args.t) none.taken ∙ free-dead s.args.t) c.issued.ensures
+    let none = found_none (sought_key Token c.args.presented) c.args.store.now (sym c.find.ensures ∙ c.in_default.is) in
+    unneeded c.before.before.before.before (ap (is_live c.args.t) none.taken ∙ free-dead c.args.t) c.issued.ensures
 
-slot-at-requires : tie.Need-slot-at-requires
-slot-at-requires c κs = let at = c.before.before in ((looked at).requires, (first at).below)
+slot-at-requires : tie.Need-slot_at-token-requires
+slot-at-requires c κs = (c.requires, (first c).below)
 
-returns-2 : tie.Need-returns-2
+returns-2 : tie.Need-returns-then-not-is_live
 returns-2 c =
-    let tested = c.before.before in
-    unneeded (looked (found tested.before)) (live tested ∙ not-true _ c.before.if1.true) c.issued2.ensures
+    unneeded c.before.before.before.before.before.before.before (live c.before.before ∙ not-true _ c.if-not-is_live.true-raw) c.issued-then-not-is_live.ensures
 
-returns-3 : tie.Need-returns-3
+returns-3 : tie.Need-returns-then-token-request
 unfolding revocation_plan
 returns-3 c =
-    let e = c.before.before.before.before in
-    let a = (asked e).args in
-    let others = others-token a.t a.presented (slots_of (asked e)) a.request.client (alive e) (λ o. c.before.if2.true (sym (whose e) ∙ o)) in
+    let a = c.args in
+    let others = others-token a.t a.presented (slots_of c.before.before.before.before.before.before.before.before.before.before) a.request.client (alive c.before.before.before.before) (λ o. c.if-token-request.true (sym (whose c.before.before.before.before) ∙ o)) in
     refuses (stop others) c.refused.ensures refl
 
-free-token-requires : tie.Need-free-token-requires
-free-token-requires c κs = let at = found (read c.before.before.before.before) in ((looked at).pre, (first at).below)
+free-token-requires : tie.Need-free_token-requires
+free-token-requires c κs = (c.requires, (first c.before.before.before.before.before.before.before).below)
 
-returns-4 : tie.Need-returns-4
+returns-4 : tie.Need-returns
 unfolding revocation_plan
 returns-4 c =
-    let done = c.before.before.before in
-    let own = done.before.before in
-    let e = own.before.before.before in
-    let s = asked e in
-    let at = found (read e) in
-    let frees = live-frees s.args.t s.args.presented (slots_of s) at.i.given.0.0 (first at) (alive e) in
-    let mine = own-token s.args.t s.args.presented (slots_of s) s.args.request.client (alive e) (whose e ∙ own.if2.false) in
-    grants (pass mine none) c.issued3.ensures
-    (done.free-token.ensures
-    ∙ ap (with_slots (decode s.args.store.now))
-    (ap (λ (x : Slot). freed_at at.i.given.0.0 x (slots_of s)) (token (read e)) ∙ frees))
+    let frees = live-frees c.args.t c.args.presented (slots_of c.before.before.before.before.before.before.before.before.before.before.before.before.before.before) c.in-At.i (first c.before.before.before.before.before.before.before.before.before.before.before) (alive c.before.before.before.before.before.before.before.before) in
+    let mine = own-token c.args.t c.args.presented (slots_of c.before.before.before.before.before.before.before.before.before.before.before.before.before.before) c.args.request.client (alive c.before.before.before.before.before.before.before.before) (whose c.before.before.before.before.before.before.before.before ∙ c.if-token-request.false) in
+    grants (pass mine none) c.issued-2.ensures
+    (c.free_token.ensures
+    ∙ ap (with_slots (decode c.args.store.now))
+    (ap (λ (x : Slot). freed_at c.in-At.i x (slots_of c.before.before.before.before.before.before.before.before.before.before.before.before.before.before)) (token c.before.before.before.before.before.before.before.before.before.before) ∙ frees))
 
-pub revoke-spec : {M : Type 1} → statement M
-revoke-spec =
+pub revoke_spec : {M : Type 1} → statement M
+revoke_spec =
     tie.close
     (tie.spec
     (λ c κs. search rules)

@@ -6,11 +6,8 @@ use Rattle.granting.proofs.spend.Tie as tie
 
 returns : tie.Need-returns
 returns c =
-    let second = c.before.before in
-    let first = second.before.before.before.before.before in
-    let kept = first.before.before.before.before.before in
-    second.issue2.ensures
-    ∙ rw (first.issue.ensures, kept.put.ensures, first.before.token-on.ensures, second.before.token-on2.ensures)
+    c.issue-2.ensures
+    ∙ rw (c.issue.ensures, c.put.ensures, c.token_on.ensures, c.token_on-2.ensures)
 
 pub spend_spec : {M : Type 1} → statement M
 spend_spec =

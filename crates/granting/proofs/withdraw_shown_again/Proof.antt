@@ -12,9 +12,6 @@ use Rattle.granting.proofs.Plans.{own-found, own-none, found-keeps, unowned-keep
 use Rattle.granting.proofs.withdraw_shown_again.Statement.{statement}
 use Rattle.granting.proofs.withdraw_shown_again.Tie as tie
 
-abbrev start : tie.After-find → tie.Start
-start c = c.before.before.before
-
 abbrev slots_of : tie.Start → List Slot
 slots_of s = (decode s.args.store.now).slots
 
@@ -24,41 +21,26 @@ left : (s : tie.Start) {l : List Slot} → l ≡ refused_slots s.args.t s.args.c
     ≡ with_slots (decode s.args.store.now) (refused_slots s.args.t s.args.client s.args.presented (slots_of s))
 left s e = ap (with_slots (decode s.args.store.now)) e
 
-returns : tie.Need-returns
+returns : tie.Need-returns-in_default
 returns c =
-    let looked = c.before.before in
-    let s = start looked in
-    let code = found_first (sought_key Code s.args.presented) s.args.store.now _ (sym looked.find.ensures ∙ c.enum-told2.given.1) in
-    left s (found-keeps s.args.t s.args.client s.args.presented (slots_of s) code.some)
+    let code = found_first (sought_key Code c.args.presented) c.args.store.now _ (sym c.find.ensures ∙ c.in_default.is) in
+    left c.before.before.before (found-keeps c.args.t c.args.client c.args.presented (slots_of c.before.before.before) code.some)
 
-abbrev sought : tie.After-find-own → tie.After-enum-told
-sought c = c.before.before
-
-abbrev begun : tie.After-find-own → tie.Start
-begun c = start (sought c).before.before
-
-returns-2 : tie.Need-returns-2
+returns-2 : tie.Need-returns-in_default-find_own
 returns-2 c =
-    let looked = c.before.before in
-    let s = begun looked in
-    let a = s.args in
-    let none = own-none a.t a.client Spent a.presented a.store.now (sym c.enum-told4.given.1 ∙ looked.find-own.ensures) in
-    left s (unowned-keeps a.t a.client a.presented (slots_of s) none)
+    let a = c.args in
+    let none = own-none a.t a.client Spent a.presented a.store.now (sym c.in_default-find_own.is ∙ c.find_own.ensures) in
+    left c.before.before.before.before.before (unowned-keeps a.t a.client a.presented (slots_of c.before.before.before.before.before) none)
 
-returns-3 : tie.Need-returns-3
+returns-3 : tie.Need-returns
 returns-3 c =
-    let cleared = c.before.before in
-    let told = cleared.before.before.before.before in
-    let looked = told.before.before in
-    let s = begun looked in
-    let a = s.args in
-    let unspent = sought looked in
-    let none = found_none (sought_key Code a.presented) a.store.now (sym unspent.before.before.find.ensures ∙ unspent.enum_told.given.1) in
-    let own = own-found a.t a.client Spent a.presented a.store.now _ (sym told.enum-told3.given.1 ∙ looked.find-own.ensures) in
-    cleared.clear-tokens.ensures ∙ left s (again-clears a.t a.client a.presented (slots_of s) none.none own.own)
+    let a = c.args in
+    let none = found_none (sought_key Code a.presented) a.store.now (sym c.find.ensures ∙ c.in-Nothing.is) in
+    let own = own-found a.t a.client Spent a.presented a.store.now _ (sym c.in-At.is ∙ c.find_own.ensures) in
+    c.clear_tokens.ensures ∙ left c.before.before.before.before.before.before.before.before.before.before.before (again-clears a.t a.client a.presented (slots_of c.before.before.before.before.before.before.before.before.before.before.before) none.none own.own)
 
-pub withdraw-shown-again-spec : {M : Type 1} → statement M
-withdraw-shown-again-spec =
+pub withdraw_shown_again_spec : {M : Type 1} → statement M
+withdraw_shown_again_spec =
     tie.close
     (tie.spec
     (λ c κs. search rules)

@@ -11,35 +11,35 @@ use Rattle.protocol.specs.Token.{is_unreserved}
 use Rattle.parameters.proofs.all_unreserved.Statement.{statement}
 use Rattle.parameters.proofs.all_unreserved.Tie as tie
 
-abbrev invariant-loop : tie.invariant-loop
-invariant-loop text ok₀ i₀ i-end ok i = (i ≤ i-end) × (i-end ≡ length text) × (ok ≡ every is_unreserved (take i text))
+abbrev invariant-loop-i : tie.invariant-loop-i
+invariant-loop-i text ok₀ i₀ i-end ok i = (i ≤ i-end) × (i-end ≡ length text) × (ok ≡ every is_unreserved (take i text))
 
-abbrev decreases-loop : tie.decreases-loop
-decreases-loop text ok₀ i₀ i-end ok i = i-end - i
+abbrev decreases-loop-i : tie.decreases-loop-i
+decreases-loop-i text ok₀ i₀ i-end ok i = i-end - i
 
-loop-holds : tie.Need-loop-init invariant-loop decreases-loop
-loop-holds c = (search rules, refl, sym (every-none is_unreserved c.before.args.text.now))
+loop-holds : tie.Need-loop-i-init invariant-loop-i decreases-loop-i
+loop-holds c = (search rules, refl, sym (every-none is_unreserved c.args.text.now))
 
-loop-again : tie.Need-loop-preserved invariant-loop decreases-loop
+loop-again : tie.Need-loop-i-preserved invariant-loop-i decreases-loop-i
 loop-again c =
-    let text = c.before.before.before.before.before.args.text.now in
-    let l = c.before.before.before.loop in (
+    let text = c.args.text.now in
+    let l = c.loop-i in (
       search rules,
       l.invariant.1,
-      ap₂ (λ (p q : Bool). p && q) l.invariant.2 c.is-unreserved.ensures ∙ sym (every_more is_unreserved text l.i 0 (search rules)),
+      ap₂ (λ (p q : Bool). p && q) l.invariant.2 c.is_unreserved-ok.ensures ∙ sym (every_more is_unreserved text l.i 0 (search rules)),
     )
 
-returns : tie.Need-returns invariant-loop decreases-loop
+returns : tie.Need-returns invariant-loop-i decreases-loop-i
 returns c =
-    let l = c.before.loop in
-    l.invariant.2 ∙ ap (every is_unreserved) (take_all l.i c.before.before.before.args.text.now (search rules))
+    let l = c.loop-i in
+    l.invariant.2 ∙ ap (every is_unreserved) (take_all l.i c.args.text.now (search rules))
 
-pub all-unreserved-spec : {M : Type 1} → statement M
-all-unreserved-spec =
+pub all_unreserved_spec : {M : Type 1} → statement M
+all_unreserved_spec =
     tie.close
     (tie.spec
-    invariant-loop
-    decreases-loop
+    invariant-loop-i
+    decreases-loop-i
     loop-holds
     (λ c. search rules)
     (λ c κs. search rules)

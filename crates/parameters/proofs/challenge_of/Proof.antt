@@ -5,14 +5,13 @@ use borrow.Author.Tests.{not-true, not-false}
 use Rattle.parameters.proofs.challenge_of.Statement.{statement}
 use Rattle.parameters.proofs.challenge_of.Tie as tie
 
-returns : tie.Need-returns
-returns c = let unsound = sym c.before.is-sound-verifier.ensures ∙ not-true _ c.if1.true in rw unsound
+returns : tie.Need-returns-then-not-is_sound_verifier
+returns c = let unsound = sym c.is_sound_verifier.ensures ∙ not-true _ c.if-not-is_sound_verifier.true-raw in rw unsound
 
-returns-2 : tie.Need-returns-2
+returns-2 : tie.Need-returns
 returns-2 c =
-    let tested = c.before in
-    let sound = sym tested.before.is-sound-verifier.ensures ∙ not-false _ tested.if1.false in
-    rw (sound, c.digest.ensures)
+    let sound = sym c.is_sound_verifier.ensures ∙ not-false _ c.if-not-is_sound_verifier.false-raw in
+    rw (sound, c.digest-bytes.ensures)
 
-pub challenge-of-spec : {M : Type 1} → statement M
-challenge-of-spec = tie.close (tie.spec (λ c κs. search rules) returns (λ c κs. search rules) returns-2)
+pub challenge_of_spec : {M : Type 1} → statement M
+challenge_of_spec = tie.close (tie.spec (λ c κs. search rules) returns (λ c κs. search rules) returns-2)

@@ -8,29 +8,24 @@ use Rattle.parameters.proofs.Buffers.{Front, front-value}
 use Rattle.parameters.proofs.client_named.Statement.{statement}
 use Rattle.parameters.proofs.client_named.Tie as tie
 
-abbrev start : tie.After-value-into → tie.Start
-start c = c.before.before.before.before
-
-decoded : (c : tie.After-value-into)
-    → let a = (start c).args in
-    Front c.value-into.new.1.1.0 c.value-into.result (only_value (view_of a.s.now a.p))
+decoded : (c : tie.After-value_into-n)
+    → let a = c.args in
+    Front c.value_into-n.new.out c.value_into-n.result (only_value (view_of a.s.now a.p))
 decoded c =
-    let s = start c in
-    front-value s.args.s.now s.args.p s.pre.2 _ _ c.value-into.ensures.0 c.value-into.ensures.1
+    front-value c.args.s.now c.args.p c.requires.2 _ _ c.value_into-n.ensures.0 c.value_into-n.ensures.1
 
-array-share-prefix-buffer : tie.Need-array-share-prefix-buffer
+array-share-prefix-buffer : tie.Need-slice_bounds-buffer-end
 array-share-prefix-buffer c = (decoded c.before).fits
 
-slice-aggregate-find : tie.Need-slice-aggregate-find
+slice-aggregate-find : tie.Need-slice_bounds-find-end
 slice-aggregate-find c = (decoded c.before.before).count
 
 returns : tie.Need-returns
 returns c =
-    let filled = c.before.before.before in
-    c.find.ensures ∙ ap (find_client (start filled).args.registry.now) (decoded filled).text
+    c.find.ensures ∙ ap (find_client c.args.registry.now) (decoded c.before.before.before).text
 
-pub client-named-spec : {M : Type 1} → statement M
-client-named-spec =
+pub client_named_spec : {M : Type 1} → statement M
+client_named_spec =
     tie.close
     (tie.spec
     (λ c. search rules)

@@ -8,25 +8,22 @@ use Rattle.parameters.proofs.Buffers.{Front, front-value}
 use Rattle.parameters.proofs.handle_presented.Statement.{statement}
 use Rattle.parameters.proofs.handle_presented.Tie as tie
 
-abbrev start : tie.After-value-into → tie.Start
-start c = c.before.before.before
-
-decoded : (c : tie.After-value-into)
-    → Front c.value-into.new.1.1.0 c.value-into.result (only_value (view_of (start c).args.s.now (start c).args.p))
+decoded : (c : tie.After-value_into-n)
+    → Front c.value_into-n.new.out c.value_into-n.result (only_value (view_of c.args.s.now c.args.p))
 decoded c =
-    front-value (start c).args.s.now (start c).args.p (start c).requires.1 _ _ c.value-into.ensures.0 c.value-into.ensures.1
+    front-value c.args.s.now c.args.p c.requires.1 _ _ c.value_into-n.ensures.0 c.value_into-n.ensures.1
 
-array-share-prefix-buffer : tie.Need-array-share-prefix-buffer
+array-share-prefix-buffer : tie.Need-slice_bounds-buffer-end
 array-share-prefix-buffer c = (decoded c.before).fits
 
-slice-aggregate-read-handle : tie.Need-slice-aggregate-read-handle
+slice-aggregate-read-handle : tie.Need-slice_bounds-read_handle-end
 slice-aggregate-read-handle c = (decoded c.before.before).count
 
 returns : tie.Need-returns
-returns c = c.read-handle.ensures ∙ ap read_handle (decoded c.before.before.before).text
+returns c = c.read_handle.ensures ∙ ap read_handle (decoded c.before.before.before).text
 
-pub handle-presented-spec : {M : Type 1} → statement M
-handle-presented-spec =
+pub handle_presented_spec : {M : Type 1} → statement M
+handle_presented_spec =
     tie.close
     (tie.spec
     (λ c. search rules)

@@ -7,29 +7,24 @@ use Rattle.parameters.proofs.States.{bad-state}
 use Rattle.parameters.proofs.is_bad_state.Statement.{statement}
 use Rattle.parameters.proofs.is_bad_state.Tie as tie
 
-abbrev entry : tie.After-value-into → tie.Start
-entry c = c.before.before.before
-
-decoded : (c : tie.After-value-into)
-    → let a = (entry c).args in Front c.value-into.new.1.1.0 c.value-into.result (only_value (view_of a.s.now a.p))
+decoded : (c : tie.After-value_into-n)
+    → let a = c.args in Front c.value_into-n.new.out c.value_into-n.result (only_value (view_of a.s.now a.p))
 decoded c =
-    let s = entry c in
-    front-value s.args.s.now s.args.p s.pre.1 _ _ c.value-into.ensures.0 c.value-into.ensures.1
+    front-value c.args.s.now c.args.p c.requires.1 _ _ c.value_into-n.ensures.0 c.value_into-n.ensures.1
 
-array-share-prefix-buffer : tie.Need-array-share-prefix-buffer
+array-share-prefix-buffer : tie.Need-slice_bounds-buffer-end
 array-share-prefix-buffer c = (decoded c.before.before).fits
 
-slice-aggregate-is-sound-state : tie.Need-slice-aggregate-is-sound-state
+slice-aggregate-is-sound-state : tie.Need-slice_bounds-is_sound_state-end
 slice-aggregate-is-sound-state c = (decoded c.before.before.before).count
 
 returns : tie.Need-returns
 returns c =
-    let filled = c.before.before.before.before in
-    let a = (entry filled).args in
-    rw (c.before.before.is-repeated.ensures, c.is-sound-state.ensures, (decoded filled).text) (bad-state (view_of a.s.now a.p))
+    let a = c.args in
+    rw (c.is_repeated.ensures, c.is_sound_state.ensures, (decoded c.before.before.before.before).text) (bad-state (view_of a.s.now a.p))
 
-pub is-bad-state-spec : {M : Type 1} → statement M
-is-bad-state-spec =
+pub is_bad_state_spec : {M : Type 1} → statement M
+is_bad_state_spec =
     tie.close
     (tie.spec
     (λ c. search rules)

@@ -11,7 +11,7 @@ use Rattle.parameters.proofs.is_sound_state.Tie as tie
 
 returns : tie.Need-returns
 unfolding is_sound_state
-returns c = ap (λ (ok : Bool). leb (length c.before.before.args.state.now) most_state && ok) c.all-in-class.ensures
+returns c = ap (λ (ok : Bool). leb (length c.args.state.now) most_state && ok) c.all_in_class.ensures
 
-pub is-sound-state-spec : {M : Type 1} → statement M
-is-sound-state-spec = tie.close (tie.spec (λ c κs. search rules) returns)
+pub is_sound_state_spec : {M : Type 1} → statement M
+is_sound_state_spec = tie.close (tie.spec (λ c κs. search rules) returns)

@@ -12,8 +12,8 @@ use Rattle.parameters.proofs.is_sound_verifier.Tie as tie
 returns : tie.Need-returns
 unfolding is_sound_verifier
 returns c =
-    let n = length c.before.before.args.text.now in
-    ap (λ (ok : Bool). leb least_verifier n && leb n most_verifier && ok) c.all-unreserved.ensures
+    let n = length c.args.text.now in
+    ap (λ (ok : Bool). leb least_verifier n && leb n most_verifier && ok) c.all_unreserved.ensures
 
-pub is-sound-verifier-spec : {M : Type 1} → statement M
-is-sound-verifier-spec = tie.close (tie.spec (λ c κs. search rules) returns)
+pub is_sound_verifier_spec : {M : Type 1} → statement M
+is_sound_verifier_spec = tie.close (tie.spec (λ c κs. search rules) returns)

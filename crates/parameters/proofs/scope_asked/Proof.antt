@@ -11,51 +11,42 @@ use Rattle.parameters.proofs.Scopes.{asked-missing, asked-repeated, asked-once}
 use Rattle.parameters.proofs.scope_asked.Statement.{statement}
 use Rattle.parameters.proofs.scope_asked.Tie as tie
 
--- past the tests that it is missing or repeated
-abbrev entry : tie.Else1 → tie.Start
-entry c = c.before.before.before
-
-abbrev start : tie.After-value-into → tie.Start
-start c = entry c.before.before.before.before
-
-decoded : (c : tie.After-value-into)
-    → Front c.value-into.new.1.1.0 c.value-into.result (only_value (view_of (start c).args.s.now (start c).args.p))
+decoded : (c : tie.After-value_into-n)
+    → Front c.value_into-n.new.out c.value_into-n.result (only_value (view_of c.args.s.now c.args.p))
 decoded c =
-    front-value (start c).args.s.now (start c).args.p (start c).requires.1 _ _ c.value-into.ensures.0 c.value-into.ensures.1
+    front-value c.args.s.now c.args.p c.requires.1 _ _ c.value_into-n.ensures.0 c.value_into-n.ensures.1
 
 -- what the value says is what is asked
 asked : (c : tie.After-read) (v : ScopeValue) → c.read.result ≡ v
-    → let a = (start c.before.before.before).args in asked_by v ≡ scope_asked (view_of a.s.now a.p)
+    → let a = c.args in asked_by v ≡ scope_asked (view_of a.s.now a.p)
 asked c v e =
-    let filled = c.before.before.before in
-    let a = (start filled).args in
-    let once = filled.before.before in
-    ap asked_by (sym e ∙ c.read.ensures ∙ ap read_scope (decoded filled).text)
-    ∙ asked-once (view_of a.s.now a.p) (sym once.before.before.before.is-missing.ensures ∙ once.before.before.if1.false)
-    (sym once.before.is-repeated.ensures ∙ once.if2.false)
+    let a = c.args in
+    ap asked_by (sym e ∙ c.read.ensures ∙ ap read_scope (decoded c.before.before.before).text)
+    ∙ asked-once (view_of a.s.now a.p) (sym c.is_missing.ensures ∙ c.if-is_missing.false)
+    (sym c.is_repeated.ensures ∙ c.if-is_repeated.false)
 
-returns : tie.Need-returns
-returns c = asked-missing _ (sym c.before.is-missing.ensures ∙ c.if1.true)
+returns : tie.Need-returns-then-is_missing
+returns c = asked-missing _ (sym c.is_missing.ensures ∙ c.if-is_missing.true)
 
-returns-2 : tie.Need-returns-2
-returns-2 c = asked-repeated _ (sym c.before.is-repeated.ensures ∙ c.if2.true)
+returns-2 : tie.Need-returns-then-is_repeated
+returns-2 c = asked-repeated _ (sym c.is_repeated.ensures ∙ c.if-is_repeated.true)
 
-array-share-prefix-buffer : tie.Need-array-share-prefix-buffer
+array-share-prefix-buffer : tie.Need-slice_bounds-buffer-end
 array-share-prefix-buffer c = (decoded c.before).fits
 
-slice-aggregate-read : tie.Need-slice-aggregate-read
+slice-aggregate-read : tie.Need-slice_bounds-read-end
 slice-aggregate-read c = (decoded c.before.before).count
 
-returns-3 : tie.Need-returns-3
+returns-3 : tie.Need-returns-in-Names
 unfolding asked_by
-returns-3 c = asked c.before.before.before _ c.before.set.given.1
+returns-3 c = asked c.before _ c.in-Names.is
 
-returns-4 : tie.Need-returns-4
+returns-4 : tie.Need-returns-in-Invalid
 unfolding asked_by
-returns-4 c = asked c.before.before _ c.enum_told.given.1
+returns-4 c = asked c.before _ c.in-Invalid.is
 
-pub scope-asked-spec : {M : Type 1} → statement M
-scope-asked-spec =
+pub scope_asked_spec : {M : Type 1} → statement M
+scope_asked_spec =
     tie.close
     (tie.spec
     (λ c κs. search rules)

@@ -5,22 +5,21 @@ use Rattle.protocol.specs.Requests.{fits}
 use Rattle.parameters.proofs.scope_fits.Statement.{statement}
 use Rattle.parameters.proofs.scope_fits.Tie as tie
 
-returns : tie.Need-returns
+returns : tie.Need-returns-in-Everything
 unfolding fits
-returns c = rw c.enum_told.given.1
+returns c = rw c.in-Everything.is
 
-returns-2 : tie.Need-returns-2
+returns-2 : tie.Need-returns-in-Only
 unfolding fits
 returns-2 c =
-    let one = c.before.before in
-    rw one.before.before.asked.given.1 (c.within.ensures ∙ rw (one.from_byte.ensures, c.before.from-byte2.ensures))
+    rw c.in-Only.is (c.within.ensures ∙ rw (c.from_byte.ensures, c.from_byte-in-Only.ensures))
 
-returns-3 : tie.Need-returns-3
+returns-3 : tie.Need-returns-in-Unreadable
 unfolding fits
-returns-3 c = rw c.enum-told2.given.1
+returns-3 c = rw c.in-Unreadable.is
 
-pub scope-fits-spec : {M : Type 1} → statement M
-scope-fits-spec =
+pub scope_fits_spec : {M : Type 1} → statement M
+scope_fits_spec =
     tie.close
     (tie.spec
     (λ c. search rules)
