@@ -2,6 +2,8 @@
 //
 // The query is read first, without a look at the store; then a code is granted or refused on the store; then the
 // location is written. Every call that is let in stores its time, whatever it answers.
+#![tactic(auto)]
+
 ghost use Rattle.std.specs.Prelude.{◌≡◌, ◌≤◌, length};
 ghost use Rattle.client_registry.specs.Registry.{clients_of};
 ghost use Rattle.token_store.specs.Store.{decode};

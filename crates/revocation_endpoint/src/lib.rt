@@ -2,6 +2,8 @@
 //
 // A call is let in, its request is read, the token is taken out of the store, and the reply, which is empty unless it is a
 // refusal, is written. Nothing is issued, so that no random bytes come with a call.
+#![tactic(auto)]
+
 ghost use Rattle.std.specs.Prelude.{◌≡◌, [], ◌≤◌, length};
 ghost use Rattle.octets.specs.Writing.{Appended};
 ghost use Rattle.client_registry.specs.Registry.{clients_of};

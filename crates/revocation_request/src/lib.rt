@@ -2,6 +2,8 @@
 // (RFC 7009, section 2.1).
 //
 // token_type_hint is a known name, so that it may not come twice; what it says is never looked at.
+#![tactic(auto)]
+
 ghost use Rattle.std.specs.Prelude.{◌≡◌, true};
 ghost use Rattle.client_registry.specs.Registry.{clients_of, fit_registry};
 ghost use Rattle.protocol.specs.Revocation.{read_revocation};

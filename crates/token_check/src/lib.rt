@@ -2,6 +2,8 @@
 //
 // It is asked for each reading that an app fetches, so it is the hot path: the fitness of registry and store, one
 // look-up, and the store's time.
+#![tactic(auto)]
+
 ghost use Rattle.std.specs.Prelude.{◌≡◌, true, [], length};
 ghost use Rattle.token_store.specs.Layout.{store_size};
 ghost use Rattle.token_store.specs.Store.{decode, is_live};

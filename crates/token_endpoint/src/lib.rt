@@ -2,6 +2,8 @@
 //
 // A call is let in, its request is read, what the store grants to it is done, and the reply is written. Reading never
 // looks at the store.
+#![tactic(auto)]
+
 ghost use Rattle.std.specs.Prelude.{◌≡◌, ◌≤◌, length};
 ghost use Rattle.octets.specs.Writing.{Appended};
 ghost use Rattle.client_registry.specs.Registry.{clients_of};

@@ -1,5 +1,7 @@
 // token_request: what a call to the token endpoint asks for, read from its arguments and the registry alone
 // (RFC 6749, sections 4.1.3, 4.4.2 and 6; RFC 7636, section 4.5).
+#![tactic(auto)]
+
 ghost use Rattle.std.specs.Prelude.{◌≡◌, true, ◌≤◌, length};
 ghost use Rattle.form.specs.Places.{Stands};
 ghost use Rattle.client_registry.specs.Registry.{clients_of, fit_registry};

@@ -13,40 +13,28 @@ use Rattle.authorization_endpoint.proofs.Locations.{address-short, client-served
 use Rattle.authorization_endpoint.proofs.answer.Statement.{statement}
 use Rattle.authorization_endpoint.proofs.answer.Tie as tie
 
-abbrev entry : tie.After-slice-known2 → tie.Start
-entry c = c.before.before.before.before.before
-
-abbrev start : tie.After-grant → tie.Start
-start c = entry c.before.before.before.before.before.before
-
 -- the challenge is the one that the query gives
-challenge : (c : tie.After-grant)
-    → c.before.before.challenge-given.result ≡ challenge_given (form_value (start c).args.query.now (bytes "code_challenge"))
-challenge c = c.before.before.challenge-given.ensures ∙ ap challenge_given (start c).requires.1.challenge
+challenge : (c : tie.After-grant-granted)
+    → c.challenge_given-challenge.result ≡ challenge_given (form_value c.args.query.now (bytes "code_challenge"))
+challenge c = c.challenge_given-challenge.ensures ∙ ap challenge_given c.requires.1.challenge
 
-write-location-requires : tie.Need-write-location-requires
+write-location-requires : tie.Need-write_location-length-requires
 write-location-requires c κs =
-    let address = c.before in
-    let s = start address.before.before.before in
-    let known = s.pre.1 in
-    let short : length address.redirect.result.now ≤ redirect_room =
-    rw address.redirect.ensures (address-short _ _ s.pre.0.fit known.entry)
+    let known = c.requires.1 in
+    let short : length c.redirect-redirect.result.now ≤ redirect_room =
+    rw c.redirect-redirect.ensures (address-short _ _ c.requires.0.fit known.entry)
     in
-    (record { room = s.pre.4; address = short; within = known.within; short = known.short }, s.pre.3)
+    (record { room = c.requires.4; address = short; within = known.within; short = known.short }, c.requires.3)
 
 returns : tie.Need-returns
 returns c =
-    let wrote = c.before.before in
-    let address = wrote.before.before in
-    let made = address.before.before.before in
-    let s = start made in
-    let a = s.args in
-    client-served a.registry.now a.query.now a.asking s.pre.1 a.random.now s.pre.3 a.t
-    (reading_with a.query.now a.asking.request) (decode a.store.now) _ made.grant.result (rw (challenge made) at made.grant.ensures)
-    address.redirect.result.now address.redirect.ensures a.output.now _ wrote.write-location.result wrote.write-location.ensures
+    let a = c.args in
+    client-served a.registry.now a.query.now a.asking c.requires.1 a.random.now c.requires.3 a.t
+    (reading_with a.query.now a.asking.request) (decode a.store.now) _ c.grant-granted.result (rw (challenge c.before.before.before.before.before.before.before) at c.grant-granted.ensures)
+    c.redirect-redirect.result.now c.redirect-redirect.ensures a.output.now _ c.write_location-length.result c.write_location-length.ensures
 
-pub answer-spec : {M : Type 1} → statement M
-answer-spec =
+pub answer_spec : {M : Type 1} → statement M
+answer_spec =
     tie.close
     (tie.spec
     (λ c κs. search rules)

@@ -13,12 +13,6 @@ use Rattle.admission.proofs.Admitting.{Enters, Sized, fit-buffers, entered-admit
 use Rattle.authorization_endpoint.proofs.authorize.Statement.{statement}
 use Rattle.authorization_endpoint.proofs.authorize.Tie as tie
 
-abbrev entry : tie.After-slice-known2 → tie.Start
-entry c = c.before.before.before.before.before
-
-abbrev start : tie.After-enter → tie.Start
-start c = entry c.before.before.before.before
-
 -- what the call is handed, its endpoint, and the store at its time
 abbrev handed : tie.Start → Handed
 handed s = let a = s.args in record { clock = a.clock; random = a.random.now; output = a.output.now }
@@ -27,47 +21,37 @@ abbrev endpoint : tie.Start → Endpoint AuthorizationAnswer
 endpoint s = let a = s.args in authorization_endpoint a.query.now a.decision a.farm
 
 abbrev begun : tie.After-enter → List ℕ
-begun c = c.enter.new.1.1.0
+begun c = c.enter.new.store
 
 abbrev Came : tie.After-enter → Admission → Type 0
-Came c r = let s = start c in Enters (endpoint s) s.args.registry.now s.args.store.now (handed s) (begun c) r
+Came c r = Enters (endpoint c.before.before.before.before.before.before.before.before) c.args.registry.now c.args.store.now (handed c.before.before.before.before.before.before.before.before) (begun c) r
 
 came : (c : tie.After-enter) (r : Admission) → c.enter.result ≡ r → Came c r
-came c r e = let entered = c.enter.ensures in rw (e, c.before.before.unfit-buffers.ensures) at entered
+came c r e = let entered = c.enter.ensures in rw (e, c.unfit_buffers-unfit.ensures) at entered
 
--- the call is let in
-abbrev into : tie.After-t → tie.After-enter
-into c = c.before.before.before.before
+let-in : (c : tie.In-At) → Came c.before.before.before (At c.in-At.t)
+let-in c = came c.before.before.before (At c.in-At.t) c.in-At.is
 
-let-in : (c : tie.After-t) → Came (into c) (At c.t.given.0.0)
-let-in c = came (into c) (At c.t.given.0.0) c.t.given.1
-
-sizes : (c : tie.After-t) → let a = (start (into c)).args in Sized code_random a.random.now a.output.now
+sizes : (c : tie.In-At) → let a = c.args in Sized code_random a.random.now a.output.now
 sizes c = fit-buffers _ _ _ (entered-admitted (let-in c)).buffers
 
 serve-requires : tie.Need-serve-requires
 serve-requires c κs =
-    let at = c.before.before.before in
-    (entered-ready (let-in at) (into at).enter.auto.1.1.0, (sizes at).exact, (sizes at).room)
+    (entered-ready (let-in c.before.before) c.enter.auto.store, (sizes c.before.before).exact, (sizes c.before.before).room)
 
-returns : tie.Need-returns
+returns : tie.Need-returns-in-Refused
 returns c =
-    let at = c.before.before.before.before.before in
-    let s = start at in
-    outcome-refused (endpoint s) s.args.registry.now s.args.store.now (handed s) _ (begun at) (came at _ c.before.refusal.given.1)
+    outcome-refused (endpoint c.before.before.before.before.before.before.before.before.before.before.before) c.args.registry.now c.args.store.now (handed c.before.before.before.before.before.before.before.before.before.before.before) _ (begun c.before.before.before) (came c.before.before.before _ c.in-Refused.is)
 
-returns-2 : tie.Need-returns-2
+returns-2 : tie.Need-returns-in-At
 returns-2 c =
-    let served = c.before.before.before.before in
-    let at = served.before.before.before.before in
-    let s = start (into at) in
-    let bytes : Bytes served.serve.new.1.1.1.1.0 = λ k. (c.before.before.slice-known4.given k).fits in
-    let size = served.serve.auto.1.1.1.1.0 ∙ (entered-ready (let-in at) (into at).enter.auto.1.1.0).size in
-    outcome-served (endpoint s) s.args.registry.now s.args.store.now (handed s) (let-in at)
-    served.serve.result _ served.serve.ensures size bytes
+    let bytes : Bytes c.serve.new.store = λ k. (c.slice_known-in-At-1.given k).fits in
+    let size = c.serve.auto.store ∙ (entered-ready (let-in c.before.before.before.before.before.before.before) c.enter.auto.store).size in
+    outcome-served (endpoint c.before.before.before.before.before.before.before.before.before.before.before.before.before.before.before.before.before.before) c.args.registry.now c.args.store.now (handed c.before.before.before.before.before.before.before.before.before.before.before.before.before.before.before.before.before.before) (let-in c.before.before.before.before.before.before.before)
+    c.serve.result _ c.serve.ensures size bytes
 
-pub authorize-spec : {M : Type 1} → statement M
-authorize-spec =
+pub authorize_spec : {M : Type 1} → statement M
+authorize_spec =
     tie.close
     (tie.spec
     (λ c κs. search rules)

@@ -41,7 +41,7 @@ fitting : (c : tie.After-scope_fits)
     → not (fits c.args.request.scope (shown_slot Refresh c.args.presented (slots_of c.before.before.before.before.before.before)).scope) ≡ not c.scope_fits.result
 fitting c =
     let asked = c.args.request.scope in
-    ap not (sym (c.scope_fits.ensures ∙ ap (λ (c.before.before.before.before.before.before : Slot). fits asked c.scope) (token c.before)))
+    ap not (sym (c.scope_fits.ensures ∙ ap (λ (x : Slot). fits asked x.scope) (token c.before)))
 
 past-scope : (c : tie.Else-not-scope_fits) {d : Decision} → Past 2 (plan_at c.before.before.before.before.before.before.before) d
 unfolding refresh_plan

@@ -7,34 +7,22 @@ use Rattle.revocation_endpoint.proofs.Served.{request-random, revocation-served}
 use Rattle.revocation_endpoint.proofs.serve.Statement.{statement}
 use Rattle.revocation_endpoint.proofs.serve.Tie as tie
 
-abbrev entry : tie.After-slice-known2 → tie.Start
-entry c = c.before.before.before.before.before
-
-abbrev start : tie.After-read → tie.Start
-start c = entry c.before
-
-grant-requires : tie.Need-grant-requires
+grant-requires : tie.Need-grant-granted-requires
 grant-requires c κs =
-    let asked = c.before.before in
-    let s = start asked in
-    (s.pre.0.size, s.pre.0.early, request-random _ _ _ asked.read.ensures)
+    (c.requires.0.size, c.requires.0.early, request-random _ _ _ c.read-reading.ensures)
 
 returns : tie.Need-returns
 returns c =
-    let wrote = c.before.before.before in
-    let made = wrote.before.before.before.before in
-    let asked = made.before.before.before in
-    let a = (start asked).args in
+    let a = c.args in
     revocation-served a.header.now a.body.now (clients_of a.registry.now) a.t [] (decode a.store.now)
-    asked.read.result asked.read.ensures made.grant.result _ made.grant.ensures
-    a.output.now _ wrote.write-reply.result wrote.write-reply.ensures c.answer.result c.answer.ensures
+    c.read-reading.result c.read-reading.ensures c.grant-granted.result _ c.grant-granted.ensures
+    a.output.now _ c.write_reply-length.result c.write_reply-length.ensures c.answer.result c.answer.ensures
 
-pub serve-spec : {M : Type 1} → statement M
-serve-spec =
+pub serve_spec : {M : Type 1} → statement M
+serve_spec =
     tie.close
     (tie.spec
     (λ c κs. search rules)
-    (λ c. search rules)
     grant-requires
     (λ c κs. search rules)
     (λ c κs. search rules)

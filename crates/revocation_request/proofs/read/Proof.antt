@@ -6,34 +6,26 @@ use Rattle.revocation_request.proofs.Readings.{client-names, read-refused, let-i
 use Rattle.revocation_request.proofs.read.Statement.{statement}
 use Rattle.revocation_request.proofs.read.Tie as tie
 
-abbrev form : tie.After-caller → tie.After-read
-form c = c.before.before.before
+read-requires : tie.Need-read-form-requires
+read-requires c κs = (c.requires, client-names)
 
-read-requires : tie.Need-read-requires
-read-requires c κs = (c.before.before.before.before.requires, client-names)
-
-handle-presented-requires : tie.Need-handle-presented-requires
+handle-presented-requires : tie.Need-handle_presented-presented-requires
 handle-presented-requires c κs =
-    let told = c.before.before in
-    let known = let-in (form told).read.ensures told.caller.given.1 in
+    let known = let-in c.read-form.ensures c.in-Client.is in
     ((known.stands.at 2 (lit< tt)).within, known.short)
 
-returns : tie.Need-returns
+returns : tie.Need-returns-in-Client
 returns c =
-    let shown = c.before in
-    let told = shown.before.before.before in
-    c.presenting.ensures ∙ read-client (form told).read.ensures told.caller.given.1 _ shown.handle-presented.ensures
+    c.presenting.ensures ∙ read-client c.read-form.ensures c.in-Client.is _ c.handle_presented-presented.ensures
 
-returns-2 : tie.Need-returns-2
+returns-2 : tie.Need-returns-in-Refused
 returns-2 c =
-    let told = c.before.before in
-    c.refuse.ensures ∙ read-refused told.before.before.before.read.ensures told.caller2.given.1
+    c.refuse.ensures ∙ read-refused c.read-form.ensures c.in-Refused.is
 
 pub read_spec : {M : Type 1} → statement M
 read_spec =
     tie.close
     (tie.spec
-    (λ c. search rules)
     read-requires
     (λ c. search rules)
     (λ c. search rules)

@@ -15,45 +15,36 @@ use Rattle.admission.proofs.Admitting.{entered-ready, outcome-refused, outcome-s
 use Rattle.token_check.proofs.check.Statement.{statement}
 use Rattle.token_check.proofs.check.Tie as tie
 
-abbrev start : tie.After-enter → tie.Start
-start c = c.before.before.before.before.before
-
 -- the store at the call's time
 abbrev begun : tie.After-enter → List ℕ
-begun c = c.enter.new.1.1.0
+begun c = c.enter.new.store
 
 came : (c : tie.After-enter) (r : Admission) → c.enter.result ≡ r
-    → let a = (start c).args in Entered false a.registry.now a.store.now a.clock (begun c) r
+    → let a = c.args in Entered false a.registry.now a.store.now a.clock (begun c) r
 came c r e = let entered = c.enter.ensures in rw e at entered
 
-abbrev entry : tie.After-t → tie.After-enter
-entry c = c.before.before.before.before
-
-look-up-requires : tie.Need-look-up-requires
+look-up-requires : tie.Need-look_up-requires
 look-up-requires c κs =
-    let at = c.before.before.before in
-    (entered-ready (came (entry at) (At at.t.given.0.0) at.t.given.1) (entry at).enter.auto.1.1.0).size
+    (entered-ready (came c.before.before.before.before (At c.in-At.t) c.in-At.is) c.enter.auto.store).size
 
-returns : tie.Need-returns
+returns : tie.Need-returns-in-Refused
 returns c =
-    let at = c.before.before.before.before.before in
-    let a = (start at).args in
-    outcome-refused (check_endpoint a.token.now) a.registry.now a.store.now (clock_alone a.clock) _ (begun at)
-    (came at _ c.before.refusal.given.1)
+    let a = c.args in
+    outcome-refused (check_endpoint a.token.now) a.registry.now a.store.now (clock_alone a.clock) _ (begun c.before.before.before)
+    (came c.before.before.before _ c.in-Refused.is)
 
-returns-2 : tie.Need-returns-2
+returns-2 : tie.Need-returns-in-At
 unfolding serve_check
 returns-2 c =
-    let at = c.before.before.before.before in
-    let a = (start (entry at)).args in
-    let entered = came (entry at) (At at.t.given.0.0) at.t.given.1 in
-    let looked = c.look_up.ensures ∙ ap (check_slots _ (decode (begun (entry at))).slots) c.before.read-handle.ensures in
-    let bytes : Bytes (begun (entry at)) = λ k. (at.before.before.slice-known2.given k).fits in
+    let a = c.args in
+    let entered = came c.before.before.before.before.before (At c.in-At.t) c.in-At.is in
+    let looked = c.look_up.ensures ∙ ap (check_slots _ (decode (begun c.before.before.before.before.before)).slots) c.read_handle.ensures in
+    let bytes : Bytes (begun c.before.before.before.before.before) = λ k. (c.slice_known-2-1.given k).fits in
     outcome-served (check_endpoint a.token.now) a.registry.now a.store.now (clock_alone a.clock) entered c.look_up.result []
-    (record { answer = looked; text = refl; store = refl }) (entered-ready entered (entry at).enter.auto.1.1.0).size bytes
+    (record { answer = looked; text = refl; store = refl }) (entered-ready entered c.enter.auto.store).size bytes
 
-pub check-spec : {M : Type 1} → statement M
-check-spec =
+pub check_spec : {M : Type 1} → statement M
+check_spec =
     tie.close
     (tie.spec
     (λ c κs. search rules)

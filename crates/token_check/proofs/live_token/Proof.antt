@@ -8,10 +8,10 @@ use Rattle.token_store.specs.Store.{is_used}
 use Rattle.token_check.proofs.live_token.Statement.{statement}
 use Rattle.token_check.proofs.live_token.Tie as tie
 
-sub-t3 : tie.Need-overflow-sub-t3
+sub-t3 : tie.Need-overflow_sub-result
 sub-t3 c =
-    let a = c.before.args in
-    omega (arith, ltb-true a.t a.token.expiry (and_right (is_used a.token) (ltb a.t a.token.expiry) c.before.requires))
+    let a = c.args in
+    omega (arith, ltb-true a.t a.token.expiry (and_right (is_used a.token) (ltb a.t a.token.expiry) c.requires))
 
-pub live-token-spec : {M : Type 1} → statement M
-live-token-spec = tie.close (tie.spec sub-t3 (λ c. search rules))
+pub live_token_spec : {M : Type 1} → statement M
+live_token_spec = tie.close (tie.spec sub-t3 (λ c. search rules))

@@ -13,56 +13,46 @@ use Rattle.protocol.specs.Granting.{shown_slot, check_slots}
 use Rattle.token_check.proofs.look_up.Statement.{statement}
 use Rattle.token_check.proofs.look_up.Tie as tie
 
-abbrev start : tie.After-find → tie.Start
-start c = c.before.before
-
 abbrev key : tie.After-find → Slot → Bool
-key c = sought_key Access (start c).args.presented
+key c = sought_key Access c.args.presented
 
 abbrev slots : tie.After-find → List Slot
-slots c = (decode (start c).args.store.now).slots
+slots c = (decode c.args.store.now).slots
 
-found : (c : tie.After-i) → First (key c.before.before) (slots c.before.before) c.i.given.0.0
-found c = let looked = c.before.before in found_first (key looked) _ _ (sym looked.find.ensures ∙ c.i.given.1)
+found : (c : tie.In-At) → First (key c.before) (slots c.before) c.in-At.i
+found c = found_first (key c.before) _ _ (sym c.find.ensures ∙ c.in-At.is)
 
--- the slot that is read is the one that the definition looks at
-abbrev looked : tie.After-slot-at → tie.After-find
-looked c = c.before.before.before.before
+shown : (c : tie.After-slot_at-token) → shown_slot Access c.args.presented (slots c.before.before) ≡ c.slot_at-token.result
+shown c = (found c.before).taken ∙ sym c.slot_at-token.ensures
 
-shown : (c : tie.After-slot-at) → shown_slot Access (start (looked c)).args.presented (slots (looked c)) ≡ c.slot_at.result
-shown c = (found c.before.before).taken ∙ sym c.slot_at.ensures
-
-returns : tie.Need-returns
+returns : tie.Need-returns-in_default
 unfolding check_slots
 returns c =
-    let at = c.before.before in
-    let none = found_none (key at) (start at).args.store.now (sym at.find.ensures ∙ c.enum_told.given.1) in
-    rw (none.taken, free-dead (start at).args.t)
+    let none = found_none (key c.before) c.args.store.now (sym c.find.ensures ∙ c.in_default.is) in
+    rw (none.taken, free-dead c.args.t)
 
-slot-at-requires : tie.Need-slot-at-requires
-slot-at-requires c κs = ((start c.before.before.before).requires, (found c.before).below)
+slot-at-requires : tie.Need-slot_at-token-requires
+slot-at-requires c κs = (c.requires, (found c).below)
 
-returns-2 : tie.Need-returns-2
+returns-2 : tie.Need-returns-then-not-is_live
 unfolding check_slots
 returns-2 c =
-    let judged = c.before in
-    rw (shown judged.before, sym judged.is_live.ensures ∙ not-true judged.is_live.result c.if1.true)
+    rw (shown c.before.before, sym c.is_live.ensures ∙ not-true c.is_live.result c.if-not-is_live.true-raw)
 
 -- the token is live
-live : (c : tie.Else1) → is_live (start (looked c.before.before)).args.t c.before.before.slot_at.result ≡ c.before.is_live.result
-live c = sym c.before.is_live.ensures
+live : (c : tie.Else-not-is_live) → is_live c.args.t c.slot_at-token.result ≡ c.is_live.result
+live c = sym c.is_live.ensures
 
-live-token-requires : tie.Need-live-token-requires
-live-token-requires c κs = live c ∙ not-false c.before.is_live.result c.if1.false
+live-token-requires : tie.Need-live_token-requires
+live-token-requires c κs = live c ∙ not-false c.is_live.result c.if-not-is_live.false-raw
 
-returns-3 : tie.Need-returns-3
+returns-3 : tie.Need-returns
 unfolding check_slots
 returns-3 c =
-    let judged = c.before in
-    rw (c.live-token.ensures, shown judged.before.before, live judged ∙ not-false judged.before.is_live.result judged.if1.false)
+    rw (c.live_token.ensures, shown c.before.before.before, live c.before ∙ not-false c.is_live.result c.if-not-is_live.false-raw)
 
-pub look-up-spec : {M : Type 1} → statement M
-look-up-spec =
+pub look_up_spec : {M : Type 1} → statement M
+look_up_spec =
     tie.close
     (tie.spec
     (λ c κs. search rules)

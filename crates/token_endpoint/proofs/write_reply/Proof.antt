@@ -4,16 +4,16 @@ use Rattle.token_endpoint.specs.Replies.{reply_by}
 use Rattle.token_endpoint.proofs.write_reply.Statement.{statement}
 use Rattle.token_endpoint.proofs.write_reply.Tie as tie
 
-returns : tie.Need-returns
+returns : tie.Need-returns-in-Refuse
 unfolding reply_by
-returns c = rw c.before.before.before.before.before.decision.given.1 c.before.before.write-refusal.ensures
+returns c = rw c.in-Refuse.is c.write_refusal.ensures
 
-returns-2 : tie.Need-returns-2
+returns-2 : tie.Need-returns-in-Grant
 unfolding reply_by
-returns-2 c = rw c.before.before.before.before.enum_told.given.1 c.before.before.write-tokens.ensures
+returns-2 c = rw c.in-Grant.is c.write_tokens.ensures
 
-pub write-reply-spec : {M : Type 1} → statement M
-write-reply-spec =
+pub write_reply_spec : {M : Type 1} → statement M
+write_reply_spec =
     tie.close
     (tie.spec
     (λ c. search rules)

@@ -5,27 +5,26 @@ use Rattle.token_request.proofs.Readings.{client-names, read-refused, let-in, re
 use Rattle.token_request.proofs.read.Statement.{statement}
 use Rattle.token_request.proofs.read.Tie as tie
 
-read-requires : tie.Need-read-requires
-read-requires c κs = (c.before.before.before.before.requires, client-names)
+read-requires : tie.Need-read-form-requires
+read-requires c κs = (c.requires, client-names)
 
-read-grant-requires : tie.Need-read-grant-requires
-read-grant-requires c κs = let-in c.before.before.before.before.read.ensures c.before.caller.given.1
+read-grant-requires : tie.Need-read_grant-requires
+read-grant-requires c κs = let-in c.read-form.ensures c.in-Client.is
 
-returns : tie.Need-returns
+returns : tie.Need-returns-in-Client
 returns c =
-    let form = c.before.before.before.before.before.read in
-    c.read-grant.ensures ∙ read-client form.ensures c.before.before.caller.given.1
+    let form = c.read-form in
+    c.read_grant.ensures ∙ read-client form.ensures c.in-Client.is
 
-returns-2 : tie.Need-returns-2
+returns-2 : tie.Need-returns-in-Refused
 returns-2 c =
-    let form = c.before.before.before.before.before.read in
-    c.refuse.ensures ∙ read-refused form.ensures c.before.before.caller2.given.1
+    let form = c.read-form in
+    c.refuse.ensures ∙ read-refused form.ensures c.in-Refused.is
 
 pub read_spec : {M : Type 1} → statement M
 read_spec =
     tie.close
     (tie.spec
-    (λ c. search rules)
     read-requires
     (λ c. search rules)
     read-grant-requires

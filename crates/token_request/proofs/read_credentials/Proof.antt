@@ -10,45 +10,32 @@ use Rattle.token_request.proofs.Readings.{public-client, scope-beyond, scope-wit
 use Rattle.token_request.proofs.read_credentials.Statement.{statement}
 use Rattle.token_request.proofs.read_credentials.Tie as tie
 
-abbrev start : tie.After-is-confidential → tie.Start
-start c = c.before.before.before
-
-abbrev asking : tie.After-scope-asked → tie.Else1
-asking c = c.before.before
-
-confidential : (c : tie.Else1)
-    → let a = (start c.before).args in
+confidential : (c : tie.Else-not-is_confidential)
+    → let a = c.args in
     (client_at (clients_of a.registry.now) a.client.number).confidential ≡ true
-confidential c = sym c.before.is-confidential.ensures ∙ not-false _ c.if1.false
+confidential c = sym c.is_confidential.ensures ∙ not-false _ c.if-not-is_confidential.false-raw
 
-returns : tie.Need-returns
+returns : tie.Need-returns-then-not-is_confidential
 returns c =
-    let tested = c.before.before in
-    c.refuse.ensures ∙ public-client (start tested).requires.stands _ _ (sym tested.is-confidential.ensures ∙ not-true _ c.before.if1.true)
+    c.refuse.ensures ∙ public-client c.requires.stands _ _ (sym c.is_confidential.ensures ∙ not-true _ c.if-not-is_confidential.true-raw)
 
-scope-asked-requires : tie.Need-scope-asked-requires
-scope-asked-requires c κs = let s = start c.before.before in ((s.pre.stands.at 6 (lit< tt)).within, s.pre.short)
+scope-asked-requires : tie.Need-scope_asked-asked-requires
+scope-asked-requires c κs = ((c.requires.stands.at 6 (lit< tt)).within, c.requires.short)
 
-returns-2 : tie.Need-returns-2
+returns-2 : tie.Need-returns-then-not-scope_fits
 returns-2 c =
-    let tested = c.before.before in
-    let held = tested.before in
-    let let-in = asking held.before in
-    c.refuse2.ensures
-    ∙ scope-beyond (start let-in.before).requires.stands _ _ (confidential let-in) _ held.before.scope-asked.ensures _ held.scope-set.ensures
-    (sym tested.scope-fits.ensures ∙ not-true _ c.before.if2.true)
+    c.refuse-then-not-scope_fits.ensures
+    ∙ scope-beyond c.requires.stands _ _ (confidential c.before.before.before.before.before.before) _ c.scope_asked-asked.ensures _ c.scope_set-held.ensures
+    (sym c.scope_fits.ensures ∙ not-true _ c.if-not-scope_fits.true-raw)
 
-returns-3 : tie.Need-returns-3
+returns-3 : tie.Need-returns
 returns-3 c =
-    let within = c.before.before in
-    let held = within.before.before in
-    let let-in = asking held.before in
-    c.presenting-none.ensures
-    ∙ scope-within (start let-in.before).requires.stands _ _ (confidential let-in) _ held.before.scope-asked.ensures _ held.scope-set.ensures
-    (sym within.before.scope-fits.ensures ∙ not-false _ within.if2.false) _ c.before.scope-given.ensures
+    c.presenting_none.ensures
+    ∙ scope-within c.requires.stands _ _ (confidential c.before.before.before.before.before.before.before) _ c.scope_asked-asked.ensures _ c.scope_set-held.ensures
+    (sym c.scope_fits.ensures ∙ not-false _ c.if-not-scope_fits.false-raw) _ c.scope_given.ensures
 
-pub read-credentials-spec : {M : Type 1} → statement M
-read-credentials-spec =
+pub read_credentials_spec : {M : Type 1} → statement M
+read_credentials_spec =
     tie.close
     (tie.spec
     (λ c κs. search rules)

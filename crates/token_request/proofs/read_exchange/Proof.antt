@@ -6,27 +6,18 @@ use Rattle.token_request.proofs.Readings.{code-missing, code-there}
 use Rattle.token_request.proofs.read_exchange.Statement.{statement}
 use Rattle.token_request.proofs.read_exchange.Tie as tie
 
-abbrev start : tie.After-redirect → tie.Start
-start c = c.before.before.before.before
-
-abbrev past : tie.Else1 → tie.Start
-past c = start c.before.before
-
-returns : tie.Need-returns
+returns : tie.Need-returns-then-is_missing
 returns c =
-    let m = c.before.before in
-    c.refuse.ensures ∙ code-missing (start m.before).requires.stands _ _ (sym m.is-missing.ensures ∙ c.before.if1.true)
+    c.refuse.ensures ∙ code-missing c.requires.stands _ _ (sym c.is_missing.ensures ∙ c.if-is_missing.true)
 
-returns-2 : tie.Need-returns-2
+returns-2 : tie.Need-returns
 returns-2 c =
-    let once = c.before.before in
-    let e = once.before.before.before in
-    let there = sym e.before.is-missing.ensures ∙ e.if1.false in
-    let again = rw once.before.redirect2.ensures at once.is-once.ensures in
-    code-there (past e).requires.stands _ _ there _ once.before.before.handle-presented.ensures _ again _ c.challenge-answered.ensures
+    let there = sym c.is_missing.ensures ∙ c.if-is_missing.false in
+    let again = rw c.redirect.ensures at c.is_once-again.ensures in
+    code-there c.requires.stands _ _ there _ c.handle_presented-presented.ensures _ again _ c.challenge_answered-challenge.ensures
 
-pub read-exchange-spec : {M : Type 1} → statement M
-read-exchange-spec =
+pub read_exchange_spec : {M : Type 1} → statement M
+read_exchange_spec =
     tie.close
     (tie.spec
     (λ c. search rules)
@@ -34,9 +25,9 @@ read-exchange-spec =
     (λ c κs. search rules)
     (λ c κs. search rules)
     returns
-    (λ c κs. (((past c).requires.stands.at 3 (lit< tt)).within, (past c).requires.short))
+    (λ c κs. ((c.requires.stands.at 3 (lit< tt)).within, c.requires.short))
     (λ c κs. search rules)
-    (λ c κs. ((past c.before.before).requires.stands.at 4 (lit< tt)).within)
+    (λ c κs. (c.requires.stands.at 4 (lit< tt)).within)
     (λ c. search rules)
-    (λ c κs. let s = past c.before.before.before.before in ((s.pre.stands.at 7 (lit< tt)).within, s.pre.short))
+    (λ c κs. ((c.requires.stands.at 7 (lit< tt)).within, c.requires.short))
     returns-2)

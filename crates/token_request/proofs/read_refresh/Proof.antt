@@ -6,24 +6,18 @@ use Rattle.token_request.proofs.Readings.{token-missing, token-there}
 use Rattle.token_request.proofs.read_refresh.Statement.{statement}
 use Rattle.token_request.proofs.read_refresh.Tie as tie
 
-abbrev start : tie.After-is-missing → tie.Start
-start c = c.before.before.before.before
-
-returns : tie.Need-returns
+returns : tie.Need-returns-then-is_missing
 returns c =
-    let m = c.before.before in
-    c.refuse.ensures ∙ token-missing (start m).requires.1 _ (sym m.is-missing.ensures ∙ c.before.if1.true)
+    c.refuse.ensures ∙ token-missing c.requires.1 _ (sym c.is_missing.ensures ∙ c.if-is_missing.true)
 
-returns-2 : tie.Need-returns-2
+returns-2 : tie.Need-returns
 returns-2 c =
-    let scope = c.before in
-    let e = scope.before.before in
-    let there = sym e.before.is-missing.ensures ∙ e.if1.false in
+    let there = sym c.is_missing.ensures ∙ c.if-is_missing.false in
     c.presenting.ensures
-    ∙ token-there (start e.before).requires.1 _ there _ scope.before.handle-presented.ensures _ scope.scope-asked.ensures
+    ∙ token-there c.requires.1 _ there _ c.handle_presented-presented.ensures _ c.scope_asked-scope.ensures
 
-pub read-refresh-spec : {M : Type 1} → statement M
-read-refresh-spec =
+pub read_refresh_spec : {M : Type 1} → statement M
+read_refresh_spec =
     tie.close
     (tie.spec
     (λ c. search rules)
@@ -31,7 +25,7 @@ read-refresh-spec =
     (λ c κs. search rules)
     (λ c κs. search rules)
     returns
-    (λ c κs. (((start c.before).requires.1.at 5 (lit< tt)).within, (start c.before).requires.0))
-    (λ c κs. (((start c.before.before).requires.1.at 6 (lit< tt)).within, (start c.before.before).requires.0))
+    (λ c κs. ((c.requires.1.at 5 (lit< tt)).within, c.requires.0))
+    (λ c κs. ((c.requires.1.at 6 (lit< tt)).within, c.requires.0))
     (λ c κs. search rules)
     returns-2)
