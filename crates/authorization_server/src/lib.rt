@@ -3,6 +3,8 @@
 // No function here asks anything of its caller: unfit buffers, registry, store and clock get refusals 1 to 4. No length that is
 // answered is more than the output's.
 // include/poplarchime.h declares what is exported.
+#![tactic(auto)]
+
 mod numbers;
 
 ghost use Rattle.std.specs.Prelude.{◌≡◌, [], ◌≤◌, length};
@@ -44,8 +46,7 @@ pub struct CheckReply {
 }
 
 // The authorization endpoint: a query, the owner's decision (1 allows the farm, any other number denies), 20 random bytes.
-#[unsafe(no_mangle)]
-pub extern "C" fn poplarchime_authorize(
+pub fn poplarchime_authorize(
     query: &[u8],
     decision: u64,
     farm: u32,
@@ -67,8 +68,7 @@ pub extern "C" fn poplarchime_authorize(
 }
 
 // The token endpoint: the Authorization field's value, empty when there is none; a body; 40 random bytes.
-#[unsafe(no_mangle)]
-pub extern "C" fn poplarchime_token(
+pub fn poplarchime_token(
     header: &[u8],
     body: &[u8],
     registry: &[u8],
@@ -89,8 +89,7 @@ pub extern "C" fn poplarchime_token(
 }
 
 // The revocation endpoint: the Authorization field's value, empty when there is none, and a body. No random bytes.
-#[unsafe(no_mangle)]
-pub extern "C" fn poplarchime_revoke(
+pub fn poplarchime_revoke(
     header: &[u8],
     body: &[u8],
     registry: &[u8],
@@ -108,13 +107,7 @@ pub extern "C" fn poplarchime_revoke(
 }
 
 // The access token check: a bare access token.
-#[unsafe(no_mangle)]
-pub extern "C" fn poplarchime_check(
-    token: &[u8],
-    registry: &[u8],
-    store: &mut [u8],
-    clock: u64,
-) -> CheckReply
+pub fn poplarchime_check(token: &[u8], registry: &[u8], store: &mut [u8], clock: u64) -> CheckReply
     ensures { record { answer = result; output = []; store = store.new }
         ≡ in_numbers check_reply (check_outcome token.now registry.now store.old clock) }
 {

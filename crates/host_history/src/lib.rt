@@ -3,8 +3,10 @@
 // Each function here does no more than call an export. Its contract says that the call is one that demand 3 speaks of, by the types
 // of its arguments, and that what the export leaves is what comes of it at the server `exports` (specs/Exports.antt): so the claim
 // about that server is one about the exports.
+#![tactic(auto)]
+
 ghost use Rattle.std.specs.Prelude.{[]};
-ghost use Rattle.history.specs.Calls.{authorization as authorizationCall, token as tokenCall, revocation as revocationCall, check as checkCall};
+ghost use Rattle.history.specs.Calls.{authorization as authorization_call, token as token_call, revocation as revocation_call, check as check_call};
 ghost use Rattle.host_history.specs.Exports.{authorization_seen, token_seen, check_seen, Leaves};
 
 use authorization_server::{AuthorizationReply, CheckReply, TokenReply};
@@ -20,7 +22,7 @@ fn authorize(
     output: &mut [u8],
 ) -> AuthorizationReply
     ensures { Leaves registry.now store.old
-        (authorizationCall query.now decision farm
+        (authorization_call query.now decision farm
         (record { clock = clock; random = random.now; output = output.old }))
         (authorization_seen (record { answer = result; output = output.new; store = store.new })) }
 {
@@ -39,7 +41,7 @@ fn token(
     output: &mut [u8],
 ) -> TokenReply
     ensures { Leaves registry.now store.old
-        (tokenCall header.now body.now
+        (token_call header.now body.now
         (record { clock = clock; random = random.now; output = output.old }))
         (token_seen (record { answer = result; output = output.new; store = store.new })) }
 {
@@ -55,14 +57,14 @@ fn revoke(
     output: &mut [u8],
 ) -> TokenReply
     ensures { Leaves registry.now store.old
-        (revocationCall header.now body.now clock output.old)
+        (revocation_call header.now body.now clock output.old)
         (token_seen (record { answer = result; output = output.new; store = store.new })) }
 {
     authorization_server::poplarchime_revoke(header, body, registry, store, clock, output)
 }
 
 fn check(token: &[u8], registry: &[u8], store: &mut [u8], clock: u64) -> CheckReply
-    ensures { Leaves registry.now store.old (checkCall token.now clock)
+    ensures { Leaves registry.now store.old (check_call token.now clock)
         (check_seen (record { answer = result; output = []; store = store.new })) }
 {
     authorization_server::poplarchime_check(token, registry, store, clock)

@@ -8,10 +8,10 @@ use Rattle.authorization_server.proofs.poplarchime_authorize.Tie as tie
 
 returns : tie.Need-returns
 returns c =
-    let done = c.before.before.before.before.before.authorize.ensures in
-    rw c.authorization-reply.ensures (ap (in_numbers authorization_reply) done, location-within _ _ _ _ _ _ done)
+    let done = c.authorize.ensures in
+    rw c.authorization_reply.ensures (ap (in_numbers authorization_reply) done, location-within _ _ _ _ _ _ done)
 
-pub poplarchime-authorize-spec : {M : Type 1} → statement M
-poplarchime-authorize-spec =
+pub poplarchime_authorize_spec : {M : Type 1} → statement M
+poplarchime_authorize_spec =
     tie.close
     (tie.spec (λ c κs. search rules) (λ c κs. search rules) (λ c. search rules) (λ c. search rules) returns)

@@ -6,8 +6,8 @@ use Rattle.authorization_server.proofs.poplarchime_check.Statement.{statement}
 use Rattle.authorization_server.proofs.poplarchime_check.Tie as tie
 
 returns : tie.Need-returns
-returns c = rw c.check-reply.ensures (ap (in_numbers check_reply) c.before.before.before.check.ensures)
+returns c = rw c.check_reply.ensures (ap (in_numbers check_reply) c.check.ensures)
 
-pub poplarchime-check-spec : {M : Type 1} → statement M
-poplarchime-check-spec =
+pub poplarchime_check_spec : {M : Type 1} → statement M
+poplarchime_check_spec =
     tie.close (tie.spec (λ c κs. search rules) (λ c κs. search rules) (λ c. search rules) returns)

@@ -8,10 +8,10 @@ use Rattle.authorization_server.proofs.poplarchime_revoke.Tie as tie
 
 returns : tie.Need-returns
 returns c =
-    let done = c.before.before.before.before.before.revoke.ensures in
-    rw c.token-reply.ensures (ap (in_numbers token_reply) done, revocation-within _ _ _ _ _ _ done)
+    let done = c.revoke.ensures in
+    rw c.token_reply.ensures (ap (in_numbers token_reply) done, revocation-within _ _ _ _ _ _ done)
 
-pub poplarchime-revoke-spec : {M : Type 1} → statement M
-poplarchime-revoke-spec =
+pub poplarchime_revoke_spec : {M : Type 1} → statement M
+poplarchime_revoke_spec =
     tie.close
     (tie.spec (λ c κs. search rules) (λ c κs. search rules) (λ c. search rules) (λ c. search rules) returns)

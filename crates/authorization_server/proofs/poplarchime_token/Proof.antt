@@ -8,10 +8,10 @@ use Rattle.authorization_server.proofs.poplarchime_token.Tie as tie
 
 returns : tie.Need-returns
 returns c =
-    let done = c.before.before.before.before.before.token.ensures in
-    rw c.token-reply.ensures (ap (in_numbers token_reply) done, reply-within _ _ _ _ _ done)
+    let done = c.token.ensures in
+    rw c.token_reply.ensures (ap (in_numbers token_reply) done, reply-within _ _ _ _ _ done)
 
-pub poplarchime-token-spec : {M : Type 1} → statement M
-poplarchime-token-spec =
+pub poplarchime_token_spec : {M : Type 1} → statement M
+poplarchime_token_spec =
     tie.close
     (tie.spec (λ c κs. search rules) (λ c κs. search rules) (λ c. search rules) (λ c. search rules) returns)

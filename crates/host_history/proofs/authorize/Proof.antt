@@ -8,9 +8,8 @@ use Rattle.host_history.proofs.authorize.Tie as tie
 returns : tie.Need-returns
 unfolding exports
 returns c =
-    let done = c.before.before.before.before in
-    let random = done.before.before.before.before.shared-slice-known3 in
-    ((search rules, λ k. (random.given k).fits), ap authorization_seen done.poplarchime-authorize.ensures.0)
+    let random = c.shared_slice_known-3-1 in
+    ((search rules, λ k. (random.given k).fits), ap authorization_seen c.poplarchime_authorize.ensures.0)
 
-pub authorize-spec : {M : Type 1} → statement M
-authorize-spec = tie.close (tie.spec (λ c κs. search rules) (λ c. search rules) (λ c. search rules) returns)
+pub authorize_spec : {M : Type 1} → statement M
+authorize_spec = tie.close (tie.spec (λ c κs. search rules) (λ c. search rules) (λ c. search rules) returns)

@@ -7,7 +7,7 @@ use Rattle.host_history.proofs.check.Tie as tie
 
 returns : tie.Need-returns
 unfolding exports
-returns c = let done = c.before.before in (tt, ap check_seen done.poplarchime-check.ensures)
+returns c = (tt, ap check_seen c.poplarchime_check.ensures)
 
-pub check-spec : {M : Type 1} → statement M
-check-spec = tie.close (tie.spec (λ c κs. search rules) (λ c. search rules) returns)
+pub check_spec : {M : Type 1} → statement M
+check_spec = tie.close (tie.spec (λ c κs. search rules) (λ c. search rules) returns)

@@ -7,7 +7,7 @@ use Rattle.host_history.proofs.revoke.Tie as tie
 
 returns : tie.Need-returns
 unfolding exports
-returns c = let done = c.before.before.before.before in (tt, ap token_seen done.poplarchime-revoke.ensures.0)
+returns c = (tt, ap token_seen c.poplarchime_revoke.ensures.0)
 
-pub revoke-spec : {M : Type 1} → statement M
-revoke-spec = tie.close (tie.spec (λ c κs. search rules) (λ c. search rules) (λ c. search rules) returns)
+pub revoke_spec : {M : Type 1} → statement M
+revoke_spec = tie.close (tie.spec (λ c κs. search rules) (λ c. search rules) (λ c. search rules) returns)

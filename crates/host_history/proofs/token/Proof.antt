@@ -8,9 +8,8 @@ use Rattle.host_history.proofs.token.Tie as tie
 returns : tie.Need-returns
 unfolding exports
 returns c =
-    let done = c.before.before.before.before in
-    let random = done.before.before.before.before.shared-slice-known4 in
-    (λ k. (random.given k).fits, ap token_seen done.poplarchime-token.ensures.0)
+    let random = c.shared_slice_known-4-1 in
+    (λ k. (random.given k).fits, ap token_seen c.poplarchime_token.ensures.0)
 
-pub token-spec : {M : Type 1} → statement M
-token-spec = tie.close (tie.spec (λ c κs. search rules) (λ c. search rules) (λ c. search rules) returns)
+pub token_spec : {M : Type 1} → statement M
+token_spec = tie.close (tie.spec (λ c κs. search rules) (λ c. search rules) (λ c. search rules) returns)

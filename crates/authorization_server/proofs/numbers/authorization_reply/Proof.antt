@@ -4,8 +4,8 @@ use Rattle.authorization_server.proofs.numbers.authorization_reply.Statement.{st
 use Rattle.authorization_server.proofs.numbers.authorization_reply.Tie as tie
 
 returns : tie.Need-returns
-returns c = rw (c.before.decision-number.ensures, c.decision-error.ensures)
+returns c = rw (c.decision_number.ensures, c.decision_error.ensures)
 
-pub authorization-reply-spec : {M : Type 1} → statement M
-authorization-reply-spec =
+pub authorization_reply_spec : {M : Type 1} → statement M
+authorization_reply_spec =
     tie.close (tie.spec (λ c κs. search rules) (λ c κs. search rules) returns)

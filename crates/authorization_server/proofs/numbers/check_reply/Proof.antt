@@ -3,17 +3,17 @@ use borrow.Author.Rules.{rules}
 use Rattle.authorization_server.proofs.numbers.check_reply.Statement.{statement}
 use Rattle.authorization_server.proofs.numbers.check_reply.Tie as tie
 
-returns : tie.Need-returns
-returns c = rw (c.refusal-number.ensures, c.before.before.a.given.1)
+returns : tie.Need-returns-in-Refused
+returns c = rw (c.refusal_number.ensures, c.in-Refused.is)
 
-returns-2 : tie.Need-returns-2
-returns-2 c = rw c.enum_told.given.1
+returns-2 : tie.Need-returns-in-NotLive
+returns-2 c = rw c.in-NotLive.is
 
-returns-3 : tie.Need-returns-3
-returns-3 c = rw (c.live-reply.ensures, c.before.before.a2.given.1)
+returns-3 : tie.Need-returns-in-Live
+returns-3 c = rw (c.live_reply.ensures, c.in-Live.is)
 
-pub check-reply-spec : {M : Type 1} → statement M
-check-reply-spec =
+pub check_reply_spec : {M : Type 1} → statement M
+check_reply_spec =
     tie.close
     (tie.spec
     (λ c. search rules)

@@ -14,11 +14,10 @@ as_number false = refl
 
 returns : tie.Need-returns
 returns c =
-    let told = c.before.before in
-    let number = told.before.decision-number.ensures in
-    rw (number, told.status-of.ensures, c.before.decision-error.ensures, as_number told.before.before.args.a.challenge)
+    let number = c.decision_number.ensures in
+    rw (number, c.status_of.ensures, c.decision_error.ensures, as_number c.args.a.challenge)
 
-pub token-reply-spec : {M : Type 1} → statement M
-token-reply-spec =
+pub token_reply_spec : {M : Type 1} → statement M
+token_reply_spec =
     tie.close
     (tie.spec (λ c κs. search rules) (λ c κs. search rules) (λ c κs. search rules) (λ c. search rules) returns)
