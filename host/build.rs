@@ -10,10 +10,10 @@ const FORMER: &str = "POPLARCHIME_FORMER_DIR";
 
 fn main() {
     let present = folder(ARCHIVES, "../target/staticlib");
-    link(&present, "authorization_server", ARCHIVES, "rt staticlib authorization_server");
-    link(&present, "digest_probe", ARCHIVES, "rt staticlib digest_probe");
+    link(&present, "authorization_server", ARCHIVES, "tools/archive authorization_server");
+    link(&present, "digest_probe", ARCHIVES, "tools/archive digest_probe");
     if env::var_os("CARGO_FEATURE_FORMER").is_some() {
-        link(&present, "decoding_probe", ARCHIVES, "rt staticlib decoding_probe");
+        link(&present, "decoding_probe", ARCHIVES, "tools/archive decoding_probe");
         link(&folder(FORMER, "../target/former"), "former_decoding_probe", FORMER, "host/former COMMIT");
     }
 }

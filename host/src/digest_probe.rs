@@ -1,4 +1,4 @@
-//! The server's digest by itself, from an archive that `rt staticlib digest_probe` makes: the library does not export it.
+//! The server's digest by itself, from an archive that `tools/archive digest_probe` makes: the library does not export it.
 
 extern "C" {
     fn poplarchime_probe_digest(message: *const u8, message_length: usize, out: *mut u8, out_length: usize) -> u32;

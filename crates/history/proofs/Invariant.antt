@@ -29,7 +29,7 @@ use Rattle.token_store.proofs.Slots.{free-dead, sought-used, code-fails, key-hol
 use Rattle.protocol.specs.Granting.{shown_slot, with_spent, room, is_own, is_shown_again}
 use Rattle.history.specs.Contents.{NeverTwice}
 use Rattle.octets.proofs.Counting.{bit-some, bit-implies, count-ext, count-le, count-and, count-not, count-replicate, count-member, count-keep, any-count, any_some, first_or-passes, first_or-none, count-first_or, length-replace_first, count-replace_first, length-replace_all, count-replace_all, replace_first-map, count_map, count-apart}
-use Rattle.history.proofs.HeldIssues.{Held, as_slot, spent_held, spent-slot, none_held, used, tests-tell}
+use Rattle.history.proofs.HeldIssues.{Held, as_slot, spent_held, spent-slot, none_held, tests-tell}
 
 -- ---- a look-up
 

@@ -40,7 +40,7 @@ use Rattle.protocol.specs.ClientForms.{is_invalid_form, lower_case, same_any_cas
 use Rattle.protocol.specs.Token.{is_unreserved, is_sound_verifier, challenge_answered, read_exchange, read_refresh, read_credentials, read_grant, read_token, error_reply, refusal_reply, token_reply, refresh_member, challenges}
 use Rattle.protocol.specs.Granting.{refused_plan, code_plan, exchange_plan, refresh_plan, credentials_plan, plan_for, slots_by, check_slots}
 use Rattle.protocol.specs.Outcomes.{serve_authorization, reply_text, serve_token, serve_check}
-use Rattle.protocol.proofs.Cases.{authorization, ShortStore, slot, linked, from, spent, challenge, challenging, count_up, Case, Row}
+use Rattle.protocol.proofs.Cases.{authorization, ShortStore, slot, linked, spent, challenge, challenging, count_up, Case, Row}
 use Rattle.protocol.proofs.TokenRows.{agrees_on, row_on}
 use Rattle.protocol.proofs.TokenCases.{clients, registry, registry-fit, registry-clients, handle, code, unbound_code, refresh_token, twin, access, refresh, renewed, some, crowded, at, held, held_beside, invalid_request, challenged, invalid_grant, no_room, clash, both_tokens, access_alone, two_handles, next_handles, Visit, row, call, refused, basic, exchange, addressless, barn, refreshing, new_access, new_refresh}
 use Rattle.protocol.proofs.CredentialsCases.{for_itself, wrong_secret, own_token, checked}

@@ -1,6 +1,6 @@
 -- Laws of the padding: its length, its stores one behind the other, and that a padded message is whole blocks.
 -- Assumes nothing.
-use Rattle.std.proofs.Common.{◌≡◌, ℕ, zero, suc, ◌+◌, ◌-◌, ◌*◌, ◌/◌, ◌%◌, ◌<◌, ◌≤◌, List, [], ◌∷◌, ◌++◌, length, take, drop, set, replicate, sym, refl, ap, ◌∙◌, ap₂, append_assoc, suc-add, zero-add, add-one, arith, length-append, length-drop, take-append-drop, length-take-le}
+use Rattle.std.proofs.Common.{◌≡◌, ℕ, zero, suc, ◌+◌, ◌*◌, ◌/◌, ◌%◌, List, [], ◌∷◌, ◌++◌, length, take, drop, set, replicate, sym, ap, ◌∙◌, ap₂, append_assoc, suc-add, zero-add, add-one, arith, length-append, length-drop, take-append-drop, length-take-le}
 use lib.ListN.{length-replicate}
 use lib.Seq.{sets, take-append-le, drop-append-le}
 use Rattle.octets.specs.BigEndian.{big_endian_bytes}

@@ -1,6 +1,5 @@
 -- SHA-256 of a message: FIPS 180-4, sections 5.1.1, 5.2.1 and 6.2.
-use Rattle.std.specs.Prelude.{ℕ, zero, suc, ◌+◌, ◌-◌, ◌*◌, ◌/◌, ◌%◌, List, [], ◌∷◌, ◌++◌, length, take, drop, replicate, slice_index}
-use Rattle.octets.specs.Lists.{part}
+use Rattle.std.specs.Prelude.{ℕ, zero, suc, ◌-◌, ◌*◌, ◌/◌, ◌%◌, List, [], ◌∷◌, ◌++◌, length, take, drop, replicate, slice_index}
 use Rattle.octets.specs.BigEndian.{big_endian, big_endian_bytes}
 use Rattle.sha256.specs.declared.State.{State}
 use Rattle.sha256.specs.Functions.{plus, ch, maj, big_sigma0, big_sigma1, small_sigma0, small_sigma1}

@@ -1,4 +1,4 @@
-//! How long the digest of a message takes, next to the plain program's: `rt staticlib digest_probe`, then
+//! How long the digest of a message takes, next to the plain program's: `tools/archive digest_probe`, then
 //! `cargo run --offline --release --bin digest_benchmark`.
 
 use std::hint::black_box;

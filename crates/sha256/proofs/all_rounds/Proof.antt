@@ -1,5 +1,5 @@
 -- After t rounds the rest of the rounds gives what all of them give from the start.
-use Rattle.std.proofs.Common.{◌≡◌, ◌+◌, ◌-◌, ◌≤◌, length, drop, sym, refl, ◌∙◌, arith, rules}
+use Rattle.std.proofs.Common.{◌≡◌, ◌-◌, ◌≤◌, length, drop, refl, ◌∙◌, arith, rules}
 use Rattle.sha256.specs.Constants.{round_constants}
 use Rattle.sha256.specs.Digest.{rounds}
 use Rattle.sha256.proofs.Blocks.{rounds-next}

@@ -1,5 +1,5 @@
 -- The four stores stand one behind the other: the byte 128, the zero bytes, and the number of bits in two parts.
-use Rattle.std.proofs.Common.{◌≡◌, ◌+◌, length, sym, refl, ap, ◌∙◌, arith, length-set, rules}
+use Rattle.std.proofs.Common.{◌≡◌, length, refl, arith, length-set, rules}
 use lib.Seq.{length-sets}
 use Rattle.sha256.proofs.Padding.{length-padding, padding-stores}
 use Rattle.sha256.proofs.append_padding.Statement.{statement}

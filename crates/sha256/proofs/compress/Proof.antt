@@ -1,7 +1,7 @@
 -- The three calls are the steps of the standard: the schedule is loaded and extended, the rounds run over it, and their
 -- result is added.
-use Rattle.std.proofs.Common.{◌≡◌, replicate, refl, ap, ◌∙◌, rules}
-use Rattle.sha256.specs.Digest.{schedule, extended, compressed}
+use Rattle.std.proofs.Common.{replicate, refl, rules}
+use Rattle.sha256.specs.Digest.{schedule, compressed}
 use Rattle.sha256.proofs.Blocks.{loaded}
 use Rattle.sha256.proofs.compress.Statement.{statement}
 use Rattle.sha256.proofs.compress.Tie as tie

@@ -1,5 +1,5 @@
 -- The whole blocks are hashed first, then the rest with the padding: the two parts of the padded message.
-use Rattle.std.proofs.Common.{◌≡◌, ◌*◌, ◌/◌, length, sym, refl, ap, ◌∙◌, arith, length-take-le, rules}
+use Rattle.std.proofs.Common.{◌*◌, ◌/◌, length, sym, arith, length-take-le, rules}
 use Rattle.octets.proofs.Lists.{part-rest}
 use Rattle.sha256.specs.Constants.{initial_hash}
 use Rattle.sha256.proofs.Padding.{digest-parts}

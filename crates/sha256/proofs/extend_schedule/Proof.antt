@@ -1,5 +1,5 @@
 -- The words before t are in place: to make the rest from them gives the same words as from the first sixteen.
-use Rattle.std.proofs.Common.{◌≡◌, ◌+◌, ◌-◌, ◌≤◌, length, take, sym, refl, ◌∙◌, arith, length-set, take_all, rules}
+use Rattle.std.proofs.Common.{◌≡◌, ◌-◌, ◌≤◌, length, take, sym, refl, ◌∙◌, arith, length-set, take_all, rules}
 use Rattle.sha256.specs.Digest.{extended}
 use Rattle.sha256.proofs.Blocks.{extend-next}
 use Rattle.sha256.proofs.extend_schedule.Statement.{statement}

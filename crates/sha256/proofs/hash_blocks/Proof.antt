@@ -1,5 +1,5 @@
 -- After i blocks, what is left of the message gives the hash value that all of it gives from the start.
-use Rattle.std.proofs.Common.{◌≡◌, ◌+◌, ◌-◌, ◌*◌, ◌/◌, ◌≤◌, length, drop, sym, refl, ◌∙◌, arith, rules}
+use Rattle.std.proofs.Common.{◌≡◌, ◌+◌, ◌-◌, ◌*◌, ◌/◌, ◌≤◌, length, drop, refl, ◌∙◌, arith, rules}
 use native.Mathlib.Nat.{sub-zero}
 use Rattle.octets.proofs.Lists.{part-to}
 use Rattle.sha256.specs.Digest.{hashed}

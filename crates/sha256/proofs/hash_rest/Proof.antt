@@ -1,5 +1,5 @@
 -- The rest and the padding stand one behind the other at the front of the buffer, and these bytes are hashed.
-use Rattle.std.proofs.Common.{◌≡◌, ℕ, ◌+◌, ◌≤◌, List, ◌++◌, length, take, replicate, sym, refl, ap, ◌∙◌, arith, length-take-le, rules}
+use Rattle.std.proofs.Common.{◌≡◌, ℕ, ◌≤◌, List, ◌++◌, length, take, replicate, sym, ap, ◌∙◌, arith, length-take-le, rules}
 use Rattle.octets.specs.Writing.{Appended}
 use Rattle.octets.proofs.Writing.{append-both, append-length, append-front}
 use Rattle.octets.proofs.Stores.{part-sets-same}

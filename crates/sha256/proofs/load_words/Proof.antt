@@ -1,5 +1,5 @@
 -- The first t words are loaded: to store those of the rest of the block now gives all sixteen.
-use Rattle.std.proofs.Common.{◌≡◌, ◌+◌, ◌-◌, ◌*◌, ◌≤◌, length, drop, sym, refl, ◌∙◌, arith, length-set, rules}
+use Rattle.std.proofs.Common.{◌≡◌, ◌-◌, ◌*◌, ◌≤◌, length, drop, refl, ◌∙◌, arith, length-set, rules}
 use lib.Seq.{sets}
 use Rattle.sha256.specs.Digest.{block_words}
 use Rattle.sha256.proofs.Blocks.{load-next}

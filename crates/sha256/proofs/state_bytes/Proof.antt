@@ -1,5 +1,5 @@
 -- The first i words are written: to write the rest now gives all 32 bytes.
-use Rattle.std.proofs.Common.{◌≡◌, ◌+◌, ◌-◌, ◌*◌, ◌≤◌, length, get_or, drop, replicate, sym, refl, ◌∙◌, arith, rules}
+use Rattle.std.proofs.Common.{◌≡◌, ◌-◌, ◌*◌, ◌≤◌, length, get_or, drop, replicate, refl, ◌∙◌, arith, rules}
 use lib.Seq.{sets, length-sets}
 use Rattle.octets.specs.BigEndian.{big_endian_bytes}
 use Rattle.octets.proofs.Stores.{sets-all}

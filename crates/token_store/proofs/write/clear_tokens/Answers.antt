@@ -1,5 +1,5 @@
 -- Up to slot i every token sought of that origin is freed, and nothing else is changed.
-use Rattle.std.proofs.Common.{◌≡◌, ◌+◌, get_or, length, sym, ap, ◌∙◌, List, arith, add-one}
+use Rattle.std.proofs.Common.{◌≡◌, get_or, length, sym, ap, ◌∙◌, List, arith, add-one}
 use Rattle.octets.proofs.Searches.{replaced-none, replaced-at, replaced-next, replaced-past, replaced-all}
 use Rattle.token_store.specs.Store.{Store, decode, slot_of, free_slot, with_slot, with_slots, comes_from}
 use Rattle.token_store.specs.declared.Slot.{Slot}
