@@ -1,6 +1,6 @@
 // worked_examples: runs the examples of the papers and of the RFCs through the proved code. The examples are the lines of
 // the file `stdin`, each a command with its arguments; every line is written out again, with what came of it below. The
-// file `stdout` has what the papers say.
+// file `stdout` has what the papers say. A read or a write that fails ends the program with its error.
 //
 // A command is known by its first letter. One space stands between two arguments, and the last runs to the end of its
 // line. HEX is bytes as hex digits; the endpoints take their random bytes so.
@@ -20,19 +20,27 @@
 //   token CLOCK HEX BODY HEADER
 //   revoke CLOCK BODY HEADER
 //   check CLOCK TOKEN
+#![tactic(auto)]
+
+ghost use Rattle.std.specs.Prelude.{◌≤◌, length, IfOk};
+
 use authorization_server::{CheckReply, TokenReply};
 use client_registry::layout;
 use encoding::{Base64Kind, Decoded};
 use form::{Count, Outcome, Place};
-use libc::{STDIN_FILENO, STDOUT_FILENO};
 use protocol::limits;
 use scope::{Scope, ScopeValue};
+use std::io;
+use std::io::Read;
 
 // The most bytes of a text that is decoded or written.
 const MOST_TEXT: usize = 512;
 
 // The most letters of a message that is written so.
 const MOST_LETTERS: usize = 4096;
+
+// The most bytes that are read: what stands beyond them is left.
+const MOST_INPUT: usize = 65536;
 
 // Beyond it a number is read no further: above every clock, 2 to the 40.
 const MOST_NUMBER: u64 = 1000000000000000;
@@ -41,23 +49,23 @@ const REGISTRY_SIZE: usize = layout::CONFIDENTIAL_SIZE + layout::PUBLIC_SIZE;
 
 // ---- writing what came of a line
 
-fn say(text: &[u8]) {
-    io::write_all(STDOUT_FILENO, text);
+fn say(rt: &impl Print, text: &[u8]) -> io::Result<()> {
+    rt.write_all(text)
 }
 
-fn say_number(label: &[u8], n: u64) {
-    say(label);
-    io::print_decimal(STDOUT_FILENO, n);
+fn say_number(rt: &impl Print, label: &[u8], n: u64) -> io::Result<()> {
+    say(rt, label)?;
+    print!(rt; "{n}")
 }
 
 // Writes what came of a line, where it is one text.
-fn found(text: &[u8]) {
-    say(b"= ");
+fn found(rt: &impl Print, text: &[u8]) -> io::Result<()> {
+    say(rt, b"= ")?;
     if text.len() == 0 {
-        say(b"(no bytes)");
+        say(rt, b"(no bytes)")?;
     }
-    say(text);
-    say(b"\n");
+    say(rt, text)?;
+    say(rt, b"\n")
 }
 
 // ---- the parts of a line
@@ -127,143 +135,144 @@ fn from_hex(text: &[u8], out: &mut [u8]) -> usize {
 
 // ---- texts
 
-fn base64(text: &[u8]) {
+fn base64(rt: &impl Print, text: &[u8]) -> io::Result<()> {
     let mut out = [0u8; MOST_TEXT];
     if MOST_TEXT < text.len() {
-        return;
+        return Ok(());
     }
     match encoding::decode_base64(Base64Kind::STANDARD, text, &mut out) {
-        Decoded::Length(n) => found(first(&out, n)),
-        Decoded::Malformed => found(b"refused"),
+        Decoded::Length(n) => found(rt, first(&out, n)),
+        Decoded::Malformed => found(rt, b"refused"),
     }
 }
 
-fn handle(text: &[u8]) {
+fn handle(rt: &impl Print, text: &[u8]) -> io::Result<()> {
     let h = encoding::read_handle(text);
     if h.valid {
-        found(b"a handle");
+        found(rt, b"a handle")
     } else {
-        found(b"no handle");
+        found(rt, b"no handle")
     }
 }
 
-fn digits(bytes: &[u8]) {
+fn digits(rt: &impl Print, bytes: &[u8]) -> io::Result<()> {
     let mut out = [0u8; 2 * MOST_TEXT];
     if MOST_TEXT < bytes.len() {
-        return;
+        return Ok(());
     }
     let end = encoding::append_hex(&mut out, 0, bytes);
-    found(first(&out, end));
+    found(rt, first(&out, end))
 }
 
-fn written(text: &[u8]) {
+fn written(rt: &impl Print, text: &[u8]) -> io::Result<()> {
     let mut out = [0u8; 3 * MOST_TEXT];
     if MOST_TEXT < text.len() {
-        return;
+        return Ok(());
     }
     let end = form_coding::append_value(&mut out, 0, text);
-    found(first(&out, end));
+    found(rt, first(&out, end))
 }
 
-fn octets_written(text: &[u8]) {
+fn octets_written(rt: &impl Print, text: &[u8]) -> io::Result<()> {
     let mut out = [0u8; MOST_TEXT];
     let n = from_hex(text, &mut out);
     let bytes = first(&out, n);
-    digits(bytes);
-    written(bytes);
+    digits(rt, bytes)?;
+    written(rt, bytes)
 }
 
-fn message(text: &[u8]) {
+fn message(rt: &impl Print, text: &[u8]) -> io::Result<()> {
     let digest = sha256::digest(text);
-    digits(&digest);
+    digits(rt, &digest)
 }
 
-fn letters(count: &[u8]) {
+fn letters(rt: &impl Print, count: &[u8]) -> io::Result<()> {
     let all = [b'a'; MOST_LETTERS];
     let n = number(count);
     if (MOST_LETTERS as u64) < n {
-        return;
+        return Ok(());
     }
-    message(first(&all, n as usize));
+    message(rt, first(&all, n as usize))
 }
 
-fn url_digest(text: &[u8]) {
+fn url_digest(rt: &impl Print, text: &[u8]) -> io::Result<()> {
     let d = encoding::read_digest(text);
     let bytes = d.bytes;
     if d.valid {
-        digits(&bytes);
+        digits(rt, &bytes)
     } else {
-        found(b"refused");
+        found(rt, b"refused")
     }
 }
 
-fn decoded(value: &[u8]) {
+fn decoded(rt: &impl Print, value: &[u8]) -> io::Result<()> {
     let mut out = [0u8; MOST_TEXT];
     if MOST_TEXT < value.len() {
-        return;
+        return Ok(());
     }
     let n = form_coding::decode_into(value, &mut out);
-    found(first(&out, n));
+    found(rt, first(&out, n))
 }
 
-fn decoded_in_turns(value: &[u8]) {
+fn decoded_in_turns(rt: &impl Print, value: &[u8]) -> io::Result<()> {
     let mut out = [0u8; MOST_TEXT];
     if MOST_TEXT < value.len() {
-        return;
+        return Ok(());
     }
     let d = form_coding::decode_in_turns(value, &mut out);
-    say_number(b"turns ", d.turns as u64);
-    say(b" ");
-    found(first(&out, d.length));
+    say_number(rt, b"turns ", d.turns as u64)?;
+    say(rt, b" ")?;
+    found(rt, first(&out, d.length))
 }
 
-fn place_says(s: &[u8], place: Place) {
+fn place_says(rt: &impl Print, s: &[u8], place: Place) -> io::Result<()> {
     let count = place.count;
     let start = place.start;
     match count {
-        Count::Missing => found(b"missing"),
-        Count::Repeated => found(b"repeated"),
+        Count::Missing => found(rt, b"missing"),
+        Count::Repeated => found(rt, b"repeated"),
         Count::Once => {
             let before = first(s, place.end);
             if start <= before.len() {
-                decoded(&before[start..]);
+                decoded(rt, &before[start..])?;
             }
+            Ok(())
         }
     }
 }
 
-fn form_says(args: &[u8]) {
+fn form_says(rt: &impl Print, args: &[u8]) -> io::Result<()> {
     let s = rest(args);
     let f = form::read(s, word(args));
     let outcome = f.outcome;
     let places = f.places;
     let place = places[0];
     match outcome {
-        Outcome::Malformed => found(b"malformed"),
-        Outcome::WellFormed => place_says(s, place),
+        Outcome::Malformed => found(rt, b"malformed"),
+        Outcome::WellFormed => place_says(rt, s, place),
     }
 }
 
-fn names(set: Scope) {
+fn names(rt: &impl Print, set: Scope) -> io::Result<()> {
     let mut out = [0u8; MOST_TEXT];
     let end = scope::append(&mut out, 0, set);
-    found(first(&out, end));
+    found(rt, first(&out, end))
 }
 
-fn value_says(value: &[u8]) {
+fn value_says(rt: &impl Print, value: &[u8]) -> io::Result<()> {
     match scope::read(value) {
-        ScopeValue::Invalid => found(b"invalid"),
-        ScopeValue::Names(set) => names(set),
+        ScopeValue::Invalid => found(rt, b"invalid"),
+        ScopeValue::Names(set) => names(rt, set),
     }
 }
 
-fn scope_says(coded: &[u8]) {
+fn scope_says(rt: &impl Print, coded: &[u8]) -> io::Result<()> {
     let mut value = [0u8; MOST_TEXT];
     if MOST_TEXT < coded.len() {
-        return;
+        return Ok(());
     }
     let n = form_coding::decode_into(coded, &mut value);
-    value_says(first(&value, n));
+    value_says(rt, first(&value, n))
 }
 
 // ---- the registry of the visit
@@ -325,13 +334,14 @@ fn put_clients(registry: &mut [u8]) {
 // ---- the exports, as a host calls them
 
 // Writes a refusal's number, or a status, and what was written behind it.
-fn answered(label: &[u8], n: u32, output: &[u8]) {
-    say_number(label, n as u64);
-    say(b" ");
-    found(output);
+fn answered(rt: &impl Print, label: &[u8], n: u32, output: &[u8]) -> io::Result<()> {
+    say_number(rt, label, n as u64)?;
+    say(rt, b" ")?;
+    found(rt, output)
 }
 
 fn authorize_with(
+    rt: &impl Print,
     query: &[u8],
     decision: u64,
     farm: u64,
@@ -339,7 +349,7 @@ fn authorize_with(
     store: &mut [u8],
     clock: u64,
     random: &[u8],
-) {
+) -> io::Result<()> {
     let mut output = [0u8; limits::LEAST_OUTPUT];
     let r = authorization_server::poplarchime_authorize(
         query,
@@ -351,16 +361,17 @@ fn authorize_with(
         random,
         &mut output,
     );
-    answered(b"refusal ", r.refusal, first(&output, r.length));
+    answered(rt, b"refusal ", r.refusal, first(&output, r.length))
 }
 
-fn authorize(clock: &[u8], registry: &[u8], store: &mut [u8]) {
+fn authorize(rt: &impl Print, clock: &[u8], registry: &[u8], store: &mut [u8]) -> io::Result<()> {
     let mut random = [0u8; limits::CODE_RANDOM];
     let decision = rest(clock);
     let farm = rest(decision);
     let hex = rest(farm);
     let n = from_hex(hex, &mut random);
     authorize_with(
+        rt,
         rest(hex),
         number(decision),
         number(farm),
@@ -368,24 +379,25 @@ fn authorize(clock: &[u8], registry: &[u8], store: &mut [u8]) {
         store,
         number(clock),
         first(&random, n),
-    );
+    )
 }
 
 // Writes the numbers that the token or the revocation endpoint answered, and the reply.
-fn replied(r: TokenReply, output: &[u8]) {
-    say_number(b"refusal ", r.refusal as u64);
-    say_number(b", challenge ", r.challenge as u64);
-    answered(b", status ", r.status, first(output, r.length));
+fn replied(rt: &impl Print, r: TokenReply, output: &[u8]) -> io::Result<()> {
+    say_number(rt, b"refusal ", r.refusal as u64)?;
+    say_number(rt, b", challenge ", r.challenge as u64)?;
+    answered(rt, b", status ", r.status, first(output, r.length))
 }
 
 fn token_with(
+    rt: &impl Print,
     header: &[u8],
     body: &[u8],
     registry: &[u8],
     store: &mut [u8],
     clock: u64,
     random: &[u8],
-) {
+) -> io::Result<()> {
     let mut output = [0u8; limits::LEAST_OUTPUT];
     let r = authorization_server::poplarchime_token(
         header,
@@ -396,25 +408,26 @@ fn token_with(
         random,
         &mut output,
     );
-    replied(r, &output);
+    replied(rt, r, &output)
 }
 
-fn token(clock: &[u8], registry: &[u8], store: &mut [u8]) {
+fn token(rt: &impl Print, clock: &[u8], registry: &[u8], store: &mut [u8]) -> io::Result<()> {
     let mut random = [0u8; limits::TOKEN_RANDOM];
     let hex = rest(clock);
     let body = rest(hex);
     let n = from_hex(hex, &mut random);
     token_with(
+        rt,
         rest(body),
         word(body),
         registry,
         store,
         number(clock),
         first(&random, n),
-    );
+    )
 }
 
-fn revoke(clock: &[u8], registry: &[u8], store: &mut [u8]) {
+fn revoke(rt: &impl Print, clock: &[u8], registry: &[u8], store: &mut [u8]) -> io::Result<()> {
     let mut output = [0u8; limits::LEAST_OUTPUT];
     let body = rest(clock);
     let r = authorization_server::poplarchime_revoke(
@@ -425,73 +438,102 @@ fn revoke(clock: &[u8], registry: &[u8], store: &mut [u8]) {
         number(clock),
         &mut output,
     );
-    replied(r, &output);
+    replied(rt, r, &output)
 }
 
-fn checked(r: CheckReply) {
-    say_number(b"refusal ", r.refusal as u64);
-    say_number(b", live ", r.live as u64);
-    say_number(b", client ", r.client as u64);
-    say_number(b", farm ", r.farm as u64);
-    say_number(b", set ", r.scope as u64);
-    say_number(b", seconds left ", r.secondsleft);
-    say(b"\n");
+fn checked(rt: &impl Print, r: CheckReply) -> io::Result<()> {
+    say_number(rt, b"refusal ", r.refusal as u64)?;
+    say_number(rt, b", live ", r.live as u64)?;
+    say_number(rt, b", client ", r.client as u64)?;
+    say_number(rt, b", farm ", r.farm as u64)?;
+    say_number(rt, b", set ", r.scope as u64)?;
+    say_number(rt, b", seconds left ", r.secondsleft)?;
+    say(rt, b"\n")
 }
 
-fn check(clock: &[u8], registry: &[u8], store: &mut [u8]) {
-    checked(authorization_server::poplarchime_check(rest(clock), registry, store, number(clock)));
+fn check(rt: &impl Print, clock: &[u8], registry: &[u8], store: &mut [u8]) -> io::Result<()> {
+    checked(
+        rt,
+        authorization_server::poplarchime_check(rest(clock), registry, store, number(clock)),
+    )
 }
 
 // ---- the lines
 
-fn run(command: u8, args: &[u8], registry: &[u8], store: &mut [u8]) {
+fn run(
+    rt: &impl Print,
+    command: u8,
+    args: &[u8],
+    registry: &[u8],
+    store: &mut [u8],
+) -> io::Result<()> {
     match command {
-        b'a' => authorize(args, registry, store),
-        b'b' => base64(args),
-        b'c' => check(args, registry, store),
-        b'd' => decoded_in_turns(args),
-        b'f' => form_says(args),
-        b'h' => handle(args),
-        b'l' => letters(args),
-        b'm' => message(args),
-        b'n' => octets::clear_at(store, 0, store.len()),
-        b'o' => octets_written(args),
-        b'r' => revoke(args, registry, store),
-        b's' => scope_says(args),
-        b't' => token(args, registry, store),
-        b'u' => url_digest(args),
-        b'w' => written(args),
-        _ => found(b"no such command"),
+        b'a' => authorize(rt, args, registry, store),
+        b'b' => base64(rt, args),
+        b'c' => check(rt, args, registry, store),
+        b'd' => decoded_in_turns(rt, args),
+        b'f' => form_says(rt, args),
+        b'h' => handle(rt, args),
+        b'l' => letters(rt, args),
+        b'm' => message(rt, args),
+        b'n' => {
+            octets::clear_at(store, 0, store.len());
+            Ok(())
+        }
+        b'o' => octets_written(rt, args),
+        b'r' => revoke(rt, args, registry, store),
+        b's' => scope_says(rt, args),
+        b't' => token(rt, args, registry, store),
+        b'u' => url_digest(rt, args),
+        b'w' => written(rt, args),
+        _ => found(rt, b"no such command"),
     }
 }
 
 // Writes a line, and runs it unless it is empty or a comment.
-fn run_line(line: &[u8], registry: &[u8], store: &mut [u8]) {
-    say(line);
-    say(b"\n");
+fn run_line(rt: &impl Print, line: &[u8], registry: &[u8], store: &mut [u8]) -> io::Result<()> {
+    say(rt, line)?;
+    say(rt, b"\n")?;
     if line.len() == 0 {
-        return;
+        return Ok(());
     }
     if line[0] == b'#' {
-        return;
+        return Ok(());
     }
-    run(line[0], rest(line), registry, store);
+    run(rt, line[0], rest(line), registry, store)
 }
 
-fn run_lines(lines: &[u8], registry: &[u8], store: &mut [u8]) {
+fn run_lines(rt: &impl Print, lines: &[u8], registry: &[u8], store: &mut [u8]) -> io::Result<()> {
     let mut at = 0;
     while at < lines.len() {
         let end = at + octets::index_of(&lines[at..], b'\n');
-        run_line(&lines[at..end], registry, store);
+        run_line(rt, &lines[at..end], registry, store)?;
         at = end + 1;
     }
+    Ok(())
 }
 
-fn main() {
+// Reads the input to the front of `buf` until it is full or the input ends, and gives how many bytes that are.
+fn read_full(rt: &impl Input, buf: &mut [u8]) -> io::Result<usize>
+    ensures { IfOk result (λ n. n ≤ length buf.new) }
+{
+    let mut input = rt.reader();
+    let mut done = 0;
+    while done < buf.len() {
+        let n = input.read(&mut buf[done..])?;
+        if n == 0 {
+            break;
+        }
+        done += n;
+    }
+    Ok(done)
+}
+
+fn main(rt: HostRuntime) -> io::Result<()> {
     let mut registry = [0u8; REGISTRY_SIZE];
     put_clients(&mut registry);
     let mut store = [0u8; token_store::layout::STORE_SIZE];
-    let mut lines = io::large_buffer();
-    let n = io::read_full(STDIN_FILENO, &mut lines);
-    run_lines(&lines[..n], &registry, &mut store);
+    let mut lines = [0u8; MOST_INPUT];
+    let n = read_full(&rt, &mut lines)?;
+    run_lines(&rt, &lines[..n], &registry, &mut store)
 }
