@@ -12,6 +12,7 @@ ghost use Rattle.form_coding.specs.Coding.{decode};
 ghost use Rattle.decoding_probe.specs.Probe.{decoded_into};
 
 // Writes the decoded bytes of a value to out from its start, and gives their number: none where out is shorter than the value.
+#[tactic(auto, unfolding(crate::specs::Probe::decoded_into))]
 #[unsafe(no_mangle)]
 pub extern "C" fn poplarchime_probe_decode(value: &[u8], out: &mut [u8]) -> usize
     ensures count { result ≡ length (decoded_into out.old value.now) }

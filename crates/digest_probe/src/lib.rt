@@ -9,6 +9,7 @@ ghost use Rattle.digest_probe.specs.Probe.{digest_into};
 
 // Writes the digest of a message to the front of out and answers 1; where out is shorter than a digest, it writes nothing
 // and answers 0.
+#[tactic(auto, unfolding(crate::specs::Probe::digest_into))]
 #[unsafe(no_mangle)]
 pub extern "C" fn poplarchime_probe_digest(message: &[u8], out: &mut [u8]) -> u32
     ensures answer { result ≡ bit (leb 32 (length out.old)) }

@@ -18,7 +18,8 @@ use Rattle.token_store.specs.Layout.{store_size, slot_count, slot_start, latest_
 use Rattle.token_store.specs.Store.{sought_key}
 use Rattle.token_store.specs.declared.Sought.TheVariants.{Access as sought_access}
 use Rattle.token_store.proofs.Fits.{unfit-size}
-use Rattle.token_store.proofs.Longer.{longer, time_before, slots_before, was_fit, longer-time, longer-fit, longer-finds}
+use Rattle.token_store.proofs.Longer.{longer, time_before, slots_before, was_fit}
+use Rattle.token_store.proofs.LongerStores.{longer-time, longer-fit, longer-finds}
 use Rattle.protocol.specs.Refusals.{first_of}
 use Rattle.protocol.specs.Granting.{check_slots}
 use Rattle.protocol.specs.Outcomes.{Endpoint, Handed, outcome, outcome_by, admit, authorization_endpoint, token_endpoint, revocation_endpoint, check_endpoint, authorization_outcome, token_outcome, revocation_outcome, check_outcome, without_random, clock_alone, serve_check}

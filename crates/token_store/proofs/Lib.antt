@@ -5,3 +5,4 @@ pub mod Codec
 pub mod Scans
 pub mod Fits
 pub mod Longer
+pub mod LongerStores
