@@ -7,6 +7,7 @@ use Prim.Native.Nat.{ℕ, ◌≤◌}
 use mathlib.Core.Path.{◌≡◌, refl, sym, ap, ◌∙◌}
 use mathlib.Core.Bool.{Bool, true, false, not}
 use mathlib.Core.List.{List}
+use Rattle.std.specs.Prelude.{Some, None, Result, Ok, Err}
 use native.Mathlib.Omega.{arith}
 use borrow.Author.Tests.{not-false, ltb-false, eqb-true}
 use lib.Dec.{eqb, lit<}
@@ -14,40 +15,35 @@ use lib.ListN.{length}
 use Rattle.octets.specs.Lists.{Bytes}
 use Rattle.octets.proofs.Booleans.{or-none}
 use Rattle.client_registry.specs.Registry.{clients_of, fit_registry, fitness_of, count_if}
-use Rattle.client_registry.specs.declared.Fitness.TheVariants.{Clients, Unfit as UnfitBytes}
 use Rattle.token_store.specs.Layout.{latest_time, store_size}
 use Rattle.token_store.specs.Store.{call_time, decode, encode, with_time}
 use Rattle.token_store.specs.Fit.{fit_store}
 use Rattle.token_store.proofs.Codec.{encode-decode}
 use Rattle.token_store.proofs.Fits.{fit-size, fit-time}
-use Rattle.protocol.specs.declared.Decision.{Decision}
-use Rattle.protocol.specs.declared.Decision.TheVariants.{Grant, Refuse}
 use Rattle.protocol.specs.declared.Refusal.{Refusal}
 use Rattle.protocol.specs.declared.Refusal.TheVariants.{Unfit}
 use Rattle.protocol.specs.declared.Input.TheVariants.{Buffers}
 use Rattle.protocol.specs.Limits.{least_output}
-use Rattle.protocol.specs.Answers.{is_grant}
+use Rattle.protocol.specs.Answers.{is_grant, Decision}
 use Rattle.protocol.specs.Outcomes.{unfit_reasons, unfit_output, unfit_buffers, Handed, Endpoint, admit, outcome_by, outcome}
 use Rattle.protocol.proofs.Reasons.{unrefused}
-use Rattle.admission.specs.declared.Admission.{Admission}
-use Rattle.admission.specs.declared.Admission.TheVariants.{Refused, At}
 use Rattle.admission.specs.Entering.{admission_by, Entered, Ready, Serves}
 
 -- ---- what the fitness of a registry tells
 
 module _ (registry : List ℕ) where
-  pub told-clients : (n : ℕ) → Clients n ≡ fitness_of registry → (fit_registry registry ≡ true) × (n ≡ length (clients_of registry))
+  pub told-clients : (n : ℕ) → Some n ≡ fitness_of registry → (fit_registry registry ≡ true) × (n ≡ length (clients_of registry))
   told-clients n e = by (fit_registry registry) refl e
     where
-      by : (q : Bool) → fit_registry registry ≡ q → Clients n ≡ count_if q registry → (fit_registry registry ≡ true) × (n ≡ length (clients_of registry))
+      by : (q : Bool) → fit_registry registry ≡ q → Some n ≡ count_if q registry → (fit_registry registry ≡ true) × (n ≡ length (clients_of registry))
       by true f e = (f, cc)
-      by false f e = let z : ◌≡◌ {A = ℕ} 0 1 = cc in absurd (omega arith)
+      by false f e = cc
 
-  pub told-unfit : UnfitBytes ≡ fitness_of registry → fit_registry registry ≡ false
+  pub told-unfit : None ≡ fitness_of registry → fit_registry registry ≡ false
   told-unfit e = by (fit_registry registry) refl e
     where
-      by : (q : Bool) → fit_registry registry ≡ q → UnfitBytes ≡ count_if q registry → fit_registry registry ≡ false
-      by true f e = let z : ◌≡◌ {A = ℕ} 0 1 = cc in absurd (omega arith)
+      by : (q : Bool) → fit_registry registry ≡ q → None ≡ count_if q registry → fit_registry registry ≡ false
+      by true f e = cc
       by false f e = f
 
 -- ---- a call that is let in
@@ -58,7 +54,7 @@ pub record Admitted (unfit : Bool) (registry store : List ℕ) (clock : ℕ) : T
   pub store-fit : fit_store (length (clients_of registry)) store ≡ true
   pub early : clock ≤ latest_time
 
-pub admitted : (unfit : Bool) (registry store : List ℕ) (clock : ℕ) → Grant ≡ admit unfit registry store clock → Admitted unfit registry store clock
+pub admitted : (unfit : Bool) (registry store : List ℕ) (clock : ℕ) → Ok tt ≡ admit unfit registry store clock → Admitted unfit registry store clock
 unfolding admit is_grant
 admitted unfit registry store clock e =
     let passed = unrefused (unfit_reasons unfit registry store clock) (ap is_grant (sym e)) in
@@ -93,17 +89,16 @@ fit-buffers size random output e =
 -- ---- the way in, from what it answers
 
 by-admission : (d : Decision) (t u : ℕ) (x : Refusal)
-    → (Refused x ≡ admission_by d t → d ≡ Refuse x) × (At u ≡ admission_by d t → (d ≡ Grant) × (u ≡ t))
-unfolding admission_by
-by-admission Grant t u x = (λ e. let z : ◌≡◌ {A = ℕ} 0 1 = cc in absurd (omega arith), λ e. (refl, cc))
-by-admission (Refuse y) t u x = (λ e. (cc), λ e. let z : ◌≡◌ {A = ℕ} 0 1 = cc in absurd (omega arith))
+    → (Err x ≡ admission_by d t → d ≡ Err x) × (Ok u ≡ admission_by d t → (d ≡ Ok tt) × (u ≡ t))
+by-admission (Ok tt) t u x = (λ e. (cc), λ e. (refl, cc))
+by-admission (Err y) t u x = (λ e. (cc), λ e. (cc))
 
 module _ {unfit : Bool} {registry store : List ℕ} {clock : ℕ} {after : List ℕ} where
-  pub entered-refused : (x : Refusal) → Entered unfit registry store clock after (Refused x) → admit unfit registry store clock ≡ Refuse x
+  pub entered-refused : (x : Refusal) → Entered unfit registry store clock after (Err x) → admit unfit registry store clock ≡ Err x
   entered-refused x e = (by-admission (admit unfit registry store clock) (call_time (decode store) clock) 0 x).0 e.answer
 
-  module _ {t : ℕ} (e : Entered unfit registry store clock after (At t)) where
-    pub entered-grant : (admit unfit registry store clock ≡ Grant) × (t ≡ call_time (decode store) clock)
+  module _ {t : ℕ} (e : Entered unfit registry store clock after (Ok t)) where
+    pub entered-grant : (admit unfit registry store clock ≡ Ok tt) × (t ≡ call_time (decode store) clock)
     entered-grant = (by-admission (admit unfit registry store clock) (call_time (decode store) clock) t (Unfit Buffers)).1 e.answer
 
     pub entered-admitted : Admitted unfit registry store clock
@@ -119,16 +114,16 @@ module _ {unfit : Bool} {registry store : List ℕ} {clock : ℕ} {after : List 
 -- ---- the outcome from its steps
 
 -- a call at an endpoint is let in, or not
-abbrev pub Enters : {Answer : Type 0} → Endpoint Answer → List ℕ → List ℕ → Handed → List ℕ → Admission → Type 0
+abbrev pub Enters : {Answer : Type 0} → Endpoint Answer → List ℕ → List ℕ → Handed → List ℕ → Result ℕ Refusal → Type 0
 Enters endpoint registry store handed after r = Entered (endpoint.unfit handed) registry store handed.clock after r
 
 module _ {Answer : Type 0} (endpoint : Endpoint Answer) (registry store : List ℕ) (handed : Handed) where
-  pub outcome-refused : (x : Refusal) (after : List ℕ) → Enters endpoint registry store handed after (Refused x)
+  pub outcome-refused : (x : Refusal) (after : List ℕ) → Enters endpoint registry store handed after (Err x)
       → record { answer = endpoint.refuse x; output = handed.output; store = after } ≡ outcome endpoint registry store handed
   unfolding outcome outcome_by
   outcome-refused x after e = rw (e.store, entered-refused x e)
 
-  module _ {t : ℕ} {begun after : List ℕ} (e : Enters endpoint registry store handed begun (At t)) where
+  module _ {t : ℕ} {begun after : List ℕ} (e : Enters endpoint registry store handed begun (Ok t)) where
     -- the bytes after a call that was served on the slots: those of the store that they decode to
     pub outcome-served : (r : Answer) (written : List ℕ)
         → Serves (endpoint.serve (clients_of registry) t (decode begun).slots handed.random) (decode begun) (decode after)

@@ -5,16 +5,8 @@ ghost use Rattle.std.specs.Prelude.{◌≡◌};
 ghost use Rattle.protocol.specs.Outcomes.{unfit_output, unfit_buffers, admit};
 ghost use Rattle.admission.specs.Entering.{Entered};
 
-use client_registry::Fitness;
 use protocol::limits::LEAST_OUTPUT;
 use protocol::{Decision, Input, Refusal};
-
-// How a call comes in: not at all, or at its time.
-#[derive(Clone, Copy)]
-pub enum Admission {
-    Refused(Refusal),
-    At(u64),
-}
 
 // Whether a call brings too little output.
 pub fn unfit_output(output: &[u8]) -> bool
@@ -35,29 +27,26 @@ fn admit(unfit: bool, registry: &[u8], store: &[u8], clock: u64) -> Decision
     ensures { result ≡ admit unfit registry.now store.now clock }
 {
     if unfit {
-        return Decision::Refuse(Refusal::Unfit(Input::Buffers));
+        return Err(Refusal::Unfit(Input::Buffers));
     }
-    let Fitness::Clients(clients) = client_registry::fitness_of(registry) else {
-        return Decision::Refuse(Refusal::Unfit(Input::Registry));
-    };
+    let clients = client_registry::fitness_of(registry).ok_or(Refusal::Unfit(Input::Registry))?;
     if !token_store::fit(store, clients) {
-        return Decision::Refuse(Refusal::Unfit(Input::Store));
+        return Err(Refusal::Unfit(Input::Store));
     }
-    if token_store::layout::LATEST_TIME < clock {
-        return Decision::Refuse(Refusal::Unfit(Input::Clock));
+    let late = token_store::layout::LATEST_TIME < clock;
+    if late {
+        return Err(Refusal::Unfit(Input::Clock));
     }
-    Decision::Grant
+    Ok(())
 }
 
-// Lets a call in, and stores its time T, the larger of the clock and the store's time.
-pub fn enter(unfit: bool, registry: &[u8], store: &mut [u8], clock: u64) -> Admission
+// Lets a call in, stores its time T, the larger of the clock and the store's time, and answers it.
+pub fn enter(unfit: bool, registry: &[u8], store: &mut [u8], clock: u64) -> Result<u64, Refusal>
     ensures { Entered unfit registry.now store.old clock store.new result }
 {
-    let admitted = admit(unfit, registry, store, clock);
-    if let Decision::Refuse(refusal) = admitted {
-        return Admission::Refused(refusal);
-    }
+    admit(unfit, registry, store, clock)?;
+    let store = store.as_mut_array().unwrap();
     let t = token_store::call_time(store, clock);
     token_store::set_time(store, t);
-    Admission::At(t)
+    Ok(t)
 }

@@ -6,6 +6,7 @@ use Prim.Native.Nat.{ℕ, ◌≤◌}
 use mathlib.Core.Path.{◌≡◌, refl, ap, ◌∙◌}
 use mathlib.Core.Bool.{true}
 use mathlib.Core.List.{List, ◌++◌}
+use Rattle.std.specs.Prelude.{Result, Ok, Err}
 use native.Mathlib.Omega.{arith}
 use lib.ListN.{length}
 use lib.Seq.{sets, take_all}
@@ -20,10 +21,10 @@ use Rattle.client_registry.proofs.Clients.{fit-client}
 use Rattle.client_registry.proofs.Fields.{redirect-text}
 use Rattle.token_store.specs.Store.{Store}
 use Rattle.token_store.specs.declared.Slot.{Slot}
-use Rattle.protocol.specs.declared.Decision.{Decision}
-use Rattle.protocol.specs.declared.Decision.TheVariants.{Grant, Refuse}
+use Rattle.protocol.specs.Answers.{Decision}
 use Rattle.protocol.specs.declared.AuthorizationAnswer.{AuthorizationAnswer}
 use Rattle.protocol.specs.declared.PageCause.{PageCause}
+use Rattle.protocol.specs.declared.Refusal.{Refusal}
 use Rattle.protocol.specs.declared.Refusal.TheVariants.{ErrorPage}
 use Rattle.protocol.specs.declared.Request.{Request}
 use Rattle.protocol.specs.declared.Request.TheVariants.{Refused}
@@ -35,8 +36,8 @@ use Rattle.protocol.specs.Authorization.{query_client, page_reasons, redirect_re
 use Rattle.protocol.specs.Granting.{plan_of, decision_on, refused_plan, plan_for, slots_by}
 use Rattle.protocol.specs.Outcomes.{serve_authorization}
 use Rattle.admission.specs.Entering.{Serves}
-use Rattle.granting.specs.declared.Granted.{Granted}
-use Rattle.granting.specs.Granted.{random_needed, Follows}
+use Rattle.granting.specs.declared.Issued.{Issued}
+use Rattle.granting.specs.Granted.{random_needed, decision_of, Follows}
 use Rattle.granting.proofs.Plans.{follows-decision}
 use Rattle.authorization_query.specs.declared.ClientQuery.{ClientQuery}
 use Rattle.authorization_query.specs.Reading.{Known}
@@ -51,8 +52,8 @@ query-random clients query decision farm =
     by (first_of (page_reasons clients query ++ redirect_reasons (client_at clients (query_client clients query)) query decision farm))
   where
     by : (d : Decision) → random_needed (unless_refused d (code_reading clients query farm)).request ≤ code_random
-    by Grant = omega arith
-    by (Refuse refusal) = omega arith
+    by (Ok tt) = omega arith
+    by (Err refusal) = omega arith
 
 -- ---- a call is served as its query was read
 
@@ -61,8 +62,8 @@ same-plan : (clients : List Client) (query : List ℕ) (farm t : ℕ) (slots : L
     → let reading = unless_refused d (code_reading clients query farm) in
     plan_of t slots random (reading_with query reading.request) ≡ plan_of t slots random reading
 unfolding unless_refused plan_for
-same-plan clients query farm t slots random Grant = refl
-same-plan clients query farm t slots random (Refuse refusal) = refl
+same-plan clients query farm t slots random (Ok tt) = refl
+same-plan clients query farm t slots random (Err refusal) = refl
 
 module _ (clients : List Client) (query : List ℕ) (decision farm t : ℕ) (random : List ℕ)
     {before after : Store} {out written : List ℕ} {r : AuthorizationAnswer} where
@@ -79,7 +80,7 @@ module _ (clients : List Client) (query : List ℕ) (decision farm t : ℕ) (ran
 module _ (clients : List Client) (query : List ℕ) (t : ℕ) (random : List ℕ) (before : Store) where
   pub page-served : (cause : PageCause) (output : List ℕ)
       → Serves (answered clients query (reading_with query (Refused (ErrorPage cause))) t before.slots random) before before output output
-      (record { decision = Refuse (ErrorPage cause); length = 0 })
+      (record { decision = Err (ErrorPage cause); length = 0 })
   unfolding plan_for refused_plan first_of slots_by location_text
   page-served cause output = record { answer = refl; text = refl; store = refl }
 
@@ -98,18 +99,18 @@ module _ (registry query : List ℕ) (q : ClientQuery) (known : Known registry q
       ≡ location_for (clients_of registry) query random d
   location-known d = rw (known.number, known.state, take_all code_random random (omega arith))
 
-  pub client-served : (t : ℕ) (reading : Reading) (before after : Store) (granted : Granted)
+  pub client-served : (t : ℕ) (reading : Reading) (before after : Store) (granted : Result Issued Refusal)
       → Follows (plan_of t before.slots random reading) before granted after
       → (redirect : List ℕ) → redirect ≡ (client_at (clients_of registry) q.client.number).redirect
-      → (out written : List ℕ) (n : ℕ) → Appended out 0 (location_text redirect (view_of query q.state) random granted.decision) written n
+      → (out written : List ℕ) (n : ℕ) → Appended out 0 (location_text redirect (view_of query q.state) random (decision_of granted)) written n
       → Serves (answered (clients_of registry) query reading t before.slots random) before after out written
-      (record { decision = granted.decision; length = n })
+      (record { decision = decision_of granted; length = n })
   client-served t reading before after granted follows redirect e out written n w =
       let plan = plan_of t before.slots random reading in
-      let decided : granted.decision ≡ decision_on plan = follows-decision follows in
+      let decided : decision_of granted ≡ decision_on plan = follows-decision follows in
       let state = view_of query q.state in
-      let text : location_text redirect state random granted.decision ≡ location_for (clients_of registry) query random (decision_on plan) =
-      ap (λ (x : List ℕ). location_text x state random granted.decision) e ∙ location-known granted.decision
+      let text : location_text redirect state random (decision_of granted) ≡ location_for (clients_of registry) query random (decision_on plan) =
+      ap (λ (x : List ℕ). location_text x state random (decision_of granted)) e ∙ location-known (decision_of granted)
       ∙ ap (location_for (clients_of registry) query random) decided
       in
       record {

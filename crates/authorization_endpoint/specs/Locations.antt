@@ -1,17 +1,16 @@
 -- For contracts inside; the exports' contracts do not cite it.
 --
 -- What a query comes to that was read so: protocol's `serve_authorization` behind the reading.
-use Rattle.std.specs.Prelude.{ℕ, List, length}
+use Rattle.std.specs.Prelude.{ℕ, List, length, None}
 use Rattle.octets.specs.Text.{bytes}
 use Rattle.form.specs.Content.{form_value}
 use Rattle.client_registry.specs.Registry.{Client}
 use Rattle.client_registry.specs.Lookup.{client_at}
 use Rattle.token_store.specs.declared.Slot.{Slot}
 use Rattle.protocol.specs.declared.AuthorizationAnswer.{AuthorizationAnswer}
-use Rattle.protocol.specs.declared.Decision.{Decision}
+use Rattle.protocol.specs.Answers.{Decision}
 use Rattle.protocol.specs.declared.Reading.{Reading}
 use Rattle.protocol.specs.declared.Request.{Request}
-use Rattle.protocol.specs.Requests.{no_handle}
 use Rattle.protocol.specs.Authorization.{query_client, challenge_given, location_text}
 use Rattle.protocol.specs.Granting.{first_handle, plan_of, decision_on, slots_after}
 use Rattle.protocol.specs.Outcomes.{Served}
@@ -25,7 +24,7 @@ location_for clients query random decided =
 abbrev pub reading_with : List ℕ → Request → Reading
 reading_with query request = record {
   request = request;
-  presented = no_handle;
+  presented = None;
   challenge = challenge_given (form_value query (bytes "code_challenge"));
 }
 

@@ -14,12 +14,10 @@ ghost use Rattle.granting.specs.Granted.{random_needed};
 ghost use Rattle.authorization_query.specs.Reading.{Known};
 ghost use Rattle.authorization_endpoint.specs.Locations.{reading_with, answered};
 
-use admission::Admission;
-use authorization_query::{ClientQuery, QueryReading};
-use encoding::HandleText;
+use authorization_query::ClientQuery;
+use parameters::Field;
 use protocol::limits::CODE_RANDOM;
-use protocol::{AuthorizationAnswer, Decision, Reading, Refusal};
-use token_store::layout::HANDLE_SIZE;
+use protocol::{AuthorizationAnswer, Reading, Refusal};
 
 // Answers the query of a known client: the location leads to its registered address.
 fn answer(
@@ -38,30 +36,25 @@ fn answer(
         (decode store.old).slots random.now)
         (decode store.old) (decode store.new) output.old output.new result }
 {
-    let client = asking.client;
-    let request = asking.request;
-    let state = asking.state;
-    let presented = HandleText {
-        valid: false,
-        bytes: [0u8; HANDLE_SIZE],
+    let challenge = Field {
+        form: query,
+        place: asking.challenge,
     };
-    let given = asking.challenge;
-    let challenge = parameters::challenge_given(query, given);
-    let granted = granting::grant(
-        store,
-        t,
-        random,
-        Reading {
-            request,
-            presented,
-            challenge,
-        },
+    let state = Field {
+        form: query,
+        place: asking.state,
+    };
+    let reading = Reading {
+        request: asking.request,
+        presented: None,
+        challenge: parameters::challenge_given(&challenge),
+    };
+    let time = granting::Time { seconds: t };
+    let decision = granting::grant(store.as_mut_array().unwrap(), time, random, reading).map(
+        |_| (),
     );
-    let decision = granted.decision;
-    let redirect = client_registry::redirect(registry, client);
-    let length = authorization_location::write_location(
-        output, redirect, decision, random, query, state,
-    );
+    let redirect = client_registry::redirect(registry, asking.client);
+    let length = authorization_location::write_location(output, redirect, decision, random, &state);
     AuthorizationAnswer { decision, length }
 }
 
@@ -83,13 +76,11 @@ fn serve(
         (decode store.old) (decode store.new) output.old output.new result }
 {
     match authorization_query::read_query(query, decision, farm, registry) {
-        QueryReading::ErrorPage(cause) => AuthorizationAnswer {
-            decision: Decision::Refuse(Refusal::ErrorPage(cause)),
+        Err(cause) => AuthorizationAnswer {
+            decision: Err(Refusal::ErrorPage(cause)),
             length: 0,
         },
-        QueryReading::FromClient(asking) => answer(
-            asking, query, registry, store, t, random, output,
-        ),
+        Ok(asking) => answer(asking, query, registry, store, t, random, output),
     }
 }
 
@@ -110,10 +101,10 @@ pub fn authorize(
 {
     let unfit = admission::unfit_buffers(CODE_RANDOM, random, output);
     match admission::enter(unfit, registry, store, clock) {
-        Admission::Refused(refusal) => AuthorizationAnswer {
-            decision: Decision::Refuse(refusal),
+        Err(refusal) => AuthorizationAnswer {
+            decision: Err(refusal),
             length: 0,
         },
-        Admission::At(t) => serve(query, decision, farm, registry, store, t, random, output),
+        Ok(t) => serve(query, decision, farm, registry, store, t, random, output),
     }
 }

@@ -1,36 +1,36 @@
 -- Laws of the reasons to refuse a query, as the code tests them, and of what reading it answers.
 --
--- In order: refusal 5; refusal 6; what the query of a known client asks; the answers.
+-- In order: refusal 5; refusal 6; a field, by its place; what the query of a known client asks; the answers.
 --
 -- Not here: that the first reason counts (`protocol`, `Reasons`); the clients of a registry (`client_registry`, `Lookup`).
 -- Assumes nothing.
 use Prim.Native.Nat.{ℕ, ◌<◌}
-use mathlib.Core.Path.{◌≡◌, refl, sym, ap, subst, ◌∙◌}
-use mathlib.Core.Bool.{Bool, true, false, not, ◌||◌, or-true}
+use mathlib.Core.Path.{◌≡◌, refl, subst, ◌∙◌}
+use mathlib.Core.Bool.{true, false, not, ◌||◌, or-true}
 use mathlib.Core.List.{List, ◌++◌}
-use native.Mathlib.Omega.{arith}
+use Rattle.std.specs.Prelude.{Some, None, Ok, Err}
 use borrow.Author.Tests.{lt-ltb, le-ltb}
 use lib.Dec.{ltb}
 use lib.ListN.{length}
 use Rattle.octets.specs.Text.{bytes}
 use Rattle.form.specs.Content.{Value, missing, once, repeated, is_well_formed_form, form_value, is_missing, is_repeated, only_value}
-use Rattle.form.specs.declared.Place.{Place}
+use Rattle.form.specs.Places.{view_of, Within}
+use Rattle.parameters.specs.Fields.{IsField}
+use Rattle.parameters.specs.declared.fields.Field.{Field}
+use Rattle.authorization_query.specs.declared.Names.{Names}
 use Rattle.client_registry.specs.Registry.{Client as RegisteredClient, clients_of, fit_registry}
 use Rattle.client_registry.specs.Lookup.{is_known, find_client}
 use Rattle.client_registry.specs.declared.Entry.{Entry}
-use Rattle.client_registry.specs.declared.FoundClient.TheVariants.{At, Unknown}
 use Rattle.client_registry.proofs.Lookup.{empty-unknown, find_at, find-unknown}
-use Rattle.protocol.specs.declared.Decision.{Decision}
-use Rattle.protocol.specs.declared.Decision.TheVariants.{Grant, Refuse}
+use Rattle.protocol.specs.Answers.{Decision}
 use Rattle.protocol.specs.declared.PageCause.{PageCause}
-use Rattle.protocol.specs.declared.Refusal.TheVariants.{ErrorPage as PageRefusal}
+use Rattle.protocol.specs.declared.Refusal.TheVariants.{ErrorPage}
 use Rattle.protocol.specs.Limits.{most_form}
 use Rattle.protocol.specs.Refusals.{first_of}
-use Rattle.protocol.specs.Requests.{scope_asked, scope_given, unless_refused}
+use Rattle.protocol.specs.Requests.{unless_refused}
 use Rattle.protocol.specs.Authorization.{is_bad_query, query_client, is_bad_client, is_bad_redirect, code_asked, page_reasons, redirect_reasons, code_reading, read_authorization}
 use Rattle.protocol.proofs.Reasons.{First, first-counts}
 use Rattle.authorization_query.specs.declared.ClientQuery.{ClientQuery}
-use Rattle.authorization_query.specs.declared.QueryReading.TheVariants.{ErrorPage, FromClient}
 use Rattle.authorization_query.specs.Reading.{IsRead, Named, client_named, request_by, asked_of, Known, Reads}
 
 -- ---- refusal 5
@@ -44,9 +44,9 @@ module _ (query : List ℕ) where
   unfolding is_bad_query
   malformed e = rw (e, or-true (ltb most_form (length query)))
 
-  pub good-query : (places : List Place) → IsRead query places → is_bad_query query ≡ false
+  pub good-query : {names : Names} → IsRead query names → is_bad_query query ≡ false
   unfolding is_bad_query
-  good-query places r = rw (le-ltb most_form (length query) r.short, r.stands.formed)
+  good-query r = rw (le-ltb most_form (length query) r.short, r.formed)
 
 -- ---- refusal 6
 
@@ -68,7 +68,7 @@ module _ (registry query : List ℕ) where
   abbrev id : Value
   id = id_in query
 
-  pub unknown-client : find_client registry (only_value id) ≡ Unknown → is_bad_client (clients_of registry) query ≡ true
+  pub unknown-client : find_client registry (only_value id) ≡ None → is_bad_client (clients_of registry) query ≡ true
   unfolding is_bad_client
   unknown-client f = rw (find-unknown registry (only_value id) f, or-true (is_repeated id || is_missing id))
 
@@ -76,7 +76,7 @@ module _ (registry query : List ℕ) where
   unfolding is_bad_client
   repeated-redirect e = rw (e, or-true (is_repeated id || is_missing id || not (is_known (only_value id) (clients_of registry))))
 
-  module _ (fit : fit_registry registry ≡ true) (client : Entry) (found : find_client registry (only_value id) ≡ At client) where
+  module _ (fit : fit_registry registry ≡ true) (client : Entry) (found : find_client registry (only_value id) ≡ Some client) where
     pub good-client : is_repeated (redirect_in query) ≡ false → is_bad_client (clients_of registry) query ≡ false
     unfolding is_bad_client
     good-client e =
@@ -87,27 +87,22 @@ module _ (registry query : List ℕ) where
     unfolding query_client
     named = let it = find_at registry (only_value id) fit client found in record { entry = it.entry; number = it.number }
 
+-- ---- a field, by its place
+
+module _ {s name : List ℕ} {f : Field} (is : IsField s name f) where
+  pub field-within : Within s f.place
+  field-within = let within : Within f.form.now f.place = f.within in rw is.form at within
+
+  pub field-value : view_of s f.place ≡ form_value s name
+  field-value = rw is.form at is.value
+
 -- ---- what the query of a known client asks
 
 by-decision : (clients : List RegisteredClient) (query : List ℕ) (farm : ℕ) (d : Decision)
     → request_by (code_asked clients query farm) d ≡ (unless_refused d (code_reading clients query farm)).request
 unfolding unless_refused
-by-decision clients query farm Grant = refl
-by-decision clients query farm (Refuse refusal) = refl
-
-pub asked_by_lem : (clients : List RegisteredClient) (query : List ℕ) (decision farm : ℕ) {d : Decision}
-    → First (redirect_reasons (client_named clients query) query decision farm) d
-    → request_by (code_asked clients query farm) d ≡ asked_of clients query decision farm
-unfolding asked_of
-asked_by_lem clients query decision farm f = ap (request_by (code_asked clients query farm)) (sym (first-counts f))
-
--- the code that is asked for, from its parts
-pub code_is : (clients : List RegisteredClient) (query : List ℕ) (farm : ℕ) {number scope : ℕ} {missing : Bool} → number ≡ query_client clients query
-    → scope ≡ scope_given (scope_asked (form_value query (bytes "scope"))) (client_named clients query).scope
-    → missing ≡ is_missing (form_value query (bytes "redirect_uri"))
-    → record { client = number; farm = farm; scope = scope; bound = not missing } ≡ code_asked clients query farm
-unfolding code_asked
-code_is clients query farm n s m = rw (n, s, m)
+by-decision clients query farm (Ok tt) = refl
+by-decision clients query farm (Err refusal) = refl
 
 -- ---- the answer
 
@@ -118,13 +113,13 @@ module _ (registry query : List ℕ) (decision farm : ℕ) where
   abbrev client : RegisteredClient
   client = client_named clients query
 
-  pub read-page : (cause : PageCause) → First (page_reasons clients query ++ redirect_reasons client query decision farm) (Refuse (PageRefusal cause))
-      → Reads registry query decision farm (ErrorPage cause)
+  pub read-page : (cause : PageCause) → First (page_reasons clients query ++ redirect_reasons client query decision farm) (Err (ErrorPage cause))
+      → Reads registry query decision farm (Err cause)
   unfolding read_authorization unless_refused
-  read-page cause f = record { request = rw (first-counts f); known = λ q e. let z : ◌≡◌ {A = ℕ} 0 1 = cc in absurd (omega arith) }
+  read-page cause f = record { request = rw (first-counts f); known = λ q e. cc }
 
   pub read-client : (q : ClientQuery) → is_bad_query query ≡ false → is_bad_client clients query ≡ false → is_bad_redirect client query ≡ false
-      → q.request ≡ asked_of clients query decision farm → Known registry query q → Reads registry query decision farm (FromClient q)
+      → q.request ≡ asked_of clients query decision farm → Known registry query q → Reads registry query decision farm (Ok q)
   unfolding read_authorization page_reasons first_of asked_of
   read-client q a b c request known =
       let asked = request ∙ by-decision clients query farm _ in

@@ -5,89 +5,127 @@
 // a `ClientQuery`, and with it an address to send the user to: the registered one, never one from the query.
 #![tactic(auto)]
 
-ghost use Rattle.std.specs.Prelude.{◌≡◌, true};
+ghost use Rattle.std.specs.Prelude.{◌≡◌, ◌≤◌, true, length};
+ghost use Rattle.form.specs.Places.{Stands};
 ghost use Rattle.client_registry.specs.Registry.{clients_of, fit_registry};
-ghost use Rattle.client_registry.specs.Lookup.{client_at, IsEntry};
+ghost use Rattle.protocol.specs.Limits.{most_form};
 ghost use Rattle.protocol.specs.Authorization.{is_bad_redirect, is_bad_challenge, is_invalid_request, is_denied};
-ghost use Rattle.authorization_query.specs.Reading.{challenge_in, method_in, IsRead, Named, asked_of, Reads};
+ghost use Rattle.authorization_query.specs.Reading.{known_names, challenge_in, method_in, client_named, IsRead, Named, request_for, asked_of, FindsNames, Reads};
 
-use client_registry::{Entry, FoundClient};
-use form::{Outcome, PLACES, Place};
+use client_registry::Entry;
+use form::{PLACES, Place};
+use parameters::Field;
 use protocol::limits::MOST_FORM;
 use protocol::{CodeRequest, ErrorWord, NO_FARM, PageCause, Refusal, Request};
 
-// Where the known names have their places, in the order in which `read_query` gives them to the form's reader.
-const RESPONSE_TYPE: usize = 0;
-
-const CLIENT_ID: usize = 1;
-
-const REDIRECT_URI: usize = 2;
-
-const SCOPE: usize = 3;
-
-const STATE: usize = 4;
-
-const CODE_CHALLENGE: usize = 5;
-
-const CODE_CHALLENGE_METHOD: usize = 6;
+// The known names of a query.
+#[derive(Clone, Copy)]
+struct Names<'a> {
+    response_type: Field<'a>,
+    client_id: Field<'a>,
+    redirect_uri: Field<'a>,
+    scope: Field<'a>,
+    state: Field<'a>,
+    code_challenge: Field<'a>,
+    code_challenge_method: Field<'a>,
+}
 
 // The query of a known client, whose redirect address may be used: the client, where the state and the code challenge stand in
 // the query, and what is asked, which may be a refusal that the client is told.
 #[derive(Clone, Copy)]
 pub struct ClientQuery {
     pub client: Entry,
+    // Places and no fields: the contract of the endpoint is over the query, which it has in hand.
     pub state: Place,
     pub challenge: Place,
     pub request: Request,
 }
 
-// What reading a query comes to.
+// A query that is being read: it is well formed, and names a client of the registry.
 #[derive(Clone, Copy)]
-pub enum QueryReading {
-    ErrorPage(PageCause),
-    FromClient(ClientQuery),
+struct Asking<'a> {
+    query: &'a [u8],
+    names: Names<'a>,
+    registry: &'a [u8],
+    client: Entry,
+    ghost read: { IsRead query.now names },
+    ghost fit: { fit_registry registry.now ≡ true },
+    ghost named: { Named registry.now query.now client },
 }
 
-// Whether a redirect address came that is not the registered one.
-fn is_bad_redirect(query: &[u8], places: [Place; PLACES], registry: &[u8], client: Entry) -> bool
-    requires { (fit_registry registry.now ≡ true) × IsEntry registry.now client × IsRead query.now places }
-    ensures { result ≡ is_bad_redirect (client_at (clients_of registry.now) client.number) query.now }
-{
-    let redirect = places[REDIRECT_URI];
-    let registered = client_registry::redirect(registry, client);
-    !form::is_missing(query, redirect) & !form::is_once(query, redirect, registered)
-}
-
-// Whether the code challenge is at fault: it is no digest or does not go with the method S256; or there is none, and yet a
-// method, or the client is public and must send one.
-fn is_bad_challenge(query: &[u8], places: [Place; PLACES], registry: &[u8], client: Entry) -> bool
-    requires { (fit_registry registry.now ≡ true) × IsEntry registry.now client × IsRead query.now places }
-    ensures { result ≡ is_bad_challenge (client_at (clients_of registry.now) client.number) (challenge_in query.now) (method_in query.now) }
-{
-    let challenge = places[CODE_CHALLENGE];
-    let method = places[CODE_CHALLENGE_METHOD];
-    if form::is_missing(query, challenge) {
-        return !form::is_missing(query, method)
-            | !client_registry::is_confidential(registry, client);
+impl Asking<'_> {
+    // Whether a redirect address came that is not the registered one.
+    fn is_bad_redirect(&self) -> bool
+        ensures { let a = self.now in result ≡ is_bad_redirect (client_named (clients_of a.registry.now) a.query.now) a.query.now }
+    {
+        let redirect = self.names.redirect_uri;
+        let registered = client_registry::redirect(self.registry, self.client);
+        !redirect.is_missing() & !redirect.is_once(registered)
     }
-    let given = parameters::challenge_given(query, challenge);
-    !form::is_once(query, method, b"S256") | !given.valid
-}
 
-// Whether response_type is missing, it, scope or state is repeated, the state is none that is sent back, or the code challenge is
-// at fault.
-fn is_invalid_request(query: &[u8], places: [Place; PLACES], registry: &[u8], client: Entry) -> bool
-    requires { (fit_registry registry.now ≡ true) × IsEntry registry.now client × IsRead query.now places }
-    ensures { result ≡ is_invalid_request (client_at (clients_of registry.now) client.number) query.now }
-{
-    let kind = places[RESPONSE_TYPE];
-    let scope = places[SCOPE];
-    let state = places[STATE];
-    form::is_missing(query, kind)
-        | form::is_repeated(query, kind)
-        | form::is_repeated(query, scope)
-        | parameters::is_bad_state(query, state)
-        | is_bad_challenge(query, places, registry, client)
+    // Whether the code challenge is at fault: it is no digest or does not go with the method S256; or there is none, and yet a
+    // method, or the client is public and must send one.
+    fn is_bad_challenge(&self) -> bool
+        ensures { let a = self.now in
+            result ≡ is_bad_challenge (client_named (clients_of a.registry.now) a.query.now) (challenge_in a.query.now) (method_in a.query.now) }
+    {
+        let challenge = self.names.code_challenge;
+        let method = self.names.code_challenge_method;
+        if challenge.is_missing() {
+            return !method.is_missing()
+                | !client_registry::is_confidential(self.registry, self.client);
+        }
+        let given = parameters::challenge_given(&challenge);
+        !method.is_once(b"S256") | given.is_none()
+    }
+
+    // Whether response_type is missing, it, scope or state is repeated, the state is none that is sent back, or the code challenge
+    // is at fault.
+    fn is_invalid_request(&self) -> bool
+        ensures { let a = self.now in result ≡ is_invalid_request (client_named (clients_of a.registry.now) a.query.now) a.query.now }
+    {
+        self.names.response_type.is_missing()
+            | self.names.response_type.is_repeated()
+            | self.names.scope.is_repeated()
+            | parameters::is_bad_state(&self.names.state)
+            | self.is_bad_challenge()
+    }
+
+    // The code that is asked for, or the word for what is wrong.
+    fn ask(&self, decision: u64, farm: u32) -> Result<CodeRequest, ErrorWord>
+        ensures { let a = self.now in request_for result ≡ asked_of (clients_of a.registry.now) a.query.now decision farm }
+    {
+        if self.is_invalid_request() {
+            return Err(ErrorWord::InvalidRequest);
+        }
+        if !self.names.response_type.is_once(b"code") {
+            return Err(ErrorWord::UnsupportedResponseType);
+        }
+        let asked = parameters::scope_asked(&self.names.scope);
+        let held = client_registry::scope_set(self.registry, self.client);
+        if !parameters::scope_fits(asked, held) {
+            return Err(ErrorWord::InvalidScope);
+        }
+        if is_denied(decision, farm) {
+            return Err(ErrorWord::AccessDenied);
+        }
+        Ok(CodeRequest {
+            client: self.client.number,
+            farm,
+            scope: parameters::scope_given(asked, held),
+            bound: !self.names.redirect_uri.is_missing(),
+        })
+    }
+
+    // What is granted or told to the client: the request for a code, or the refusal.
+    fn request(&self, decision: u64, farm: u32) -> Request
+        ensures { let a = self.now in result ≡ asked_of (clients_of a.registry.now) a.query.now decision farm }
+    {
+        match self.ask(decision, farm) {
+            Ok(code) => Request::Code(code),
+            Err(word) => Request::Refused(Refusal::Redirect(word)),
+        }
+    }
 }
 
 // Whether the owner denies: the decision 1 allows, any other denies, and so does one for a farm that is no owner's.
@@ -97,92 +135,98 @@ fn is_denied(decision: u64, farm: u32) -> bool
     (decision != 1) | (farm == NO_FARM)
 }
 
-// What the query of a known client asks.
-fn ask(
-    query: &[u8],
-    places: [Place; PLACES],
-    registry: &[u8],
-    client: Entry,
-    decision: u64,
-    farm: u32,
-) -> Request
-    requires { (fit_registry registry.now ≡ true) × Named registry.now query.now client × IsRead query.now places }
-    ensures { result ≡ asked_of (clients_of registry.now) query.now decision farm }
+// The known names of a query that was read, at their places.
+fn names_at(query: &[u8], places: [Place; PLACES]) -> Names<'_>
+    requires { (length query.now ≤ most_form) × Stands known_names query.now places }
+    ensures { IsRead query.now result }
 {
-    if is_invalid_request(query, places, registry, client) {
-        return Request::Refused(Refusal::Redirect(ErrorWord::InvalidRequest));
+    let [
+        response_type,
+        client_id,
+        redirect_uri,
+        scope,
+        state,
+        code_challenge,
+        code_challenge_method,
+        _,
+    ] = places;
+    Names {
+        response_type: Field {
+            form: query,
+            place: response_type,
+        },
+        client_id: Field {
+            form: query,
+            place: client_id,
+        },
+        redirect_uri: Field {
+            form: query,
+            place: redirect_uri,
+        },
+        scope: Field {
+            form: query,
+            place: scope,
+        },
+        state: Field {
+            form: query,
+            place: state,
+        },
+        code_challenge: Field {
+            form: query,
+            place: code_challenge,
+        },
+        code_challenge_method: Field {
+            form: query,
+            place: code_challenge_method,
+        },
     }
-    let kind = places[RESPONSE_TYPE];
-    if !form::is_once(query, kind, b"code") {
-        return Request::Refused(Refusal::Redirect(ErrorWord::UnsupportedResponseType));
-    }
-    let scope = places[SCOPE];
-    let asked = parameters::scope_asked(query, scope);
-    let held = client_registry::scope_set(registry, client);
-    if !parameters::scope_fits(asked, held) {
-        return Request::Refused(Refusal::Redirect(ErrorWord::InvalidScope));
-    }
-    if is_denied(decision, farm) {
-        return Request::Refused(Refusal::Redirect(ErrorWord::AccessDenied));
-    }
-    let redirect = places[REDIRECT_URI];
-    Request::Code(CodeRequest {
-        client: client.number,
-        farm,
-        scope: parameters::scope_given(asked, held),
-        bound: !form::is_missing(query, redirect),
-    })
 }
 
-// Reads a query by the places of its names.
-fn read_places(
-    query: &[u8],
-    places: [Place; PLACES],
-    decision: u64,
-    farm: u32,
-    registry: &[u8],
-) -> QueryReading
-    requires { (fit_registry registry.now ≡ true) × IsRead query.now places }
-    ensures { Reads registry.now query.now decision farm result }
+// Finds the known names in a query, unless it is too long or malformed.
+fn find_names(query: &[u8]) -> Result<Names<'_>, PageCause>
+    ensures { FindsNames query.now result }
 {
-    let id = places[CLIENT_ID];
-    let FoundClient::At(client) = parameters::client_named(registry, query, id) else {
-        return QueryReading::ErrorPage(PageCause::Client);
-    };
-    let redirect = places[REDIRECT_URI];
-    if form::is_repeated(query, redirect) {
-        return QueryReading::ErrorPage(PageCause::Client);
+    let long = MOST_FORM < query.len();
+    if long {
+        return Err(PageCause::Query);
     }
-    if is_bad_redirect(query, places, registry, client) {
-        return QueryReading::ErrorPage(PageCause::RedirectUri);
-    }
-    let request = ask(query, places, registry, client, decision, farm);
-    let state = places[STATE];
-    let challenge = places[CODE_CHALLENGE];
-    QueryReading::FromClient(ClientQuery {
-        client,
-        state,
-        challenge,
-        request,
-    })
+    let places = form::read(
+        query,
+        b"response_type&client_id&redirect_uri&scope&state&code_challenge&code_challenge_method",
+    )
+    .ok_or(PageCause::Query)?;
+    Ok(names_at(query, places))
 }
 
 // Reads a query.
-pub fn read_query(query: &[u8], decision: u64, farm: u32, registry: &[u8]) -> QueryReading
+pub fn read_query(
+    query: &[u8],
+    decision: u64,
+    farm: u32,
+    registry: &[u8],
+) -> Result<ClientQuery, PageCause>
     requires { fit_registry registry.now ≡ true }
     ensures { Reads registry.now query.now decision farm result }
 {
-    if MOST_FORM < query.len() {
-        return QueryReading::ErrorPage(PageCause::Query);
+    let names = find_names(query)?;
+    let named = parameters::client_named(registry, &names.client_id);
+    let client = named.ok_or(PageCause::Client)?;
+    if names.redirect_uri.is_repeated() {
+        return Err(PageCause::Client);
     }
-    let form = form::read(
+    let asking = Asking {
         query,
-        b"response_type&client_id&redirect_uri&scope&state&code_challenge&code_challenge_method",
-    );
-    let outcome = form.outcome;
-    let Outcome::WellFormed = outcome else {
-        return QueryReading::ErrorPage(PageCause::Query);
+        names,
+        registry,
+        client,
     };
-    let places = form.places;
-    read_places(query, places, decision, farm, registry)
+    if asking.is_bad_redirect() {
+        return Err(PageCause::RedirectUri);
+    }
+    Ok(ClientQuery {
+        client,
+        state: names.state.place,
+        challenge: names.code_challenge.place,
+        request: asking.request(decision, farm),
+    })
 }

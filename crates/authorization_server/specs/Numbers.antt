@@ -1,14 +1,12 @@
 -- The numbers of an answer, case by case, and an outcome with its answer in numbers. Numbers that a case leaves free are 0.
-use Rattle.std.specs.Prelude.{ℕ}
+use Rattle.std.specs.Prelude.{ℕ, Ok, Err}
 use Rattle.octets.specs.Search.{bit}
-use Rattle.protocol.specs.declared.Decision.{Decision}
-use Rattle.protocol.specs.declared.Decision.TheVariants.{Grant, Refuse}
 use Rattle.protocol.specs.declared.AuthorizationAnswer.{AuthorizationAnswer}
 use Rattle.protocol.specs.declared.TokenAnswer.{TokenAnswer}
 use Rattle.protocol.specs.declared.LiveToken.{LiveToken}
 use Rattle.protocol.specs.declared.CheckAnswer.{CheckAnswer}
 use Rattle.protocol.specs.declared.CheckAnswer.TheVariants.{Refused, NotLive, Live}
-use Rattle.protocol.specs.Answers.{refusal_number, error_number, status_of}
+use Rattle.protocol.specs.Answers.{refusal_number, error_number, status_of, Decision}
 use Rattle.protocol.specs.Outcomes.{Outcome}
 use Rattle.authorization_server.specs.declared.AuthorizationReply.{AuthorizationReply}
 use Rattle.authorization_server.specs.declared.TokenReply.{TokenReply}
@@ -16,12 +14,12 @@ use Rattle.authorization_server.specs.declared.CheckReply.{CheckReply}
 
 -- the number of a refusal in document 01's table, and the number of its error word
 abbrev pub decision_number : Decision → ℕ
-decision_number Grant = 0
-decision_number (Refuse r) = refusal_number r
+decision_number (Ok tt) = 0
+decision_number (Err r) = refusal_number r
 
 abbrev pub decision_error : Decision → ℕ
-decision_error Grant = 0
-decision_error (Refuse r) = error_number r
+decision_error (Ok tt) = 0
+decision_error (Err r) = error_number r
 
 abbrev pub authorization_reply : AuthorizationAnswer → AuthorizationReply
 authorization_reply a = record { refusal = decision_number a.decision; error = decision_error a.decision; length = a.length }

@@ -35,7 +35,7 @@ pub struct TokenReply {
 
 // What the access token check answers, in numbers. `refusal` is 0 or 2 to 4; `live` is 1 or 0; the rest is 0 unless it is 1.
 #[repr(C)]
-#[derive(Clone, Copy)]
+#[derive(Clone, Copy, Default)]
 pub struct CheckReply {
     pub refusal: u32,
     pub live: u32,
@@ -62,7 +62,7 @@ pub fn poplarchime_authorize(
         (record { clock = clock; random = random.now; output = output.old })) }
     ensures length_in_bounds { result.length ≤ length output.old }
 {
-    numbers::authorization_reply(authorization_endpoint::authorize(
+    AuthorizationReply::from(authorization_endpoint::authorize(
         query, decision, farm, registry, store, clock, random, output,
     ))
 }
@@ -83,9 +83,7 @@ pub fn poplarchime_token(
         (record { clock = clock; random = random.now; output = output.old })) }
     ensures length_in_bounds { result.length ≤ length output.old }
 {
-    numbers::token_reply(token_endpoint::token(
-        header, body, registry, store, clock, random, output,
-    ))
+    TokenReply::from(token_endpoint::token(header, body, registry, store, clock, random, output))
 }
 
 // The revocation endpoint: the Authorization field's value, empty when there is none, and a body. No random bytes.
@@ -103,7 +101,7 @@ pub fn poplarchime_revoke(
         output.old) }
     ensures length_in_bounds { result.length ≤ length output.old }
 {
-    numbers::token_reply(revocation_endpoint::revoke(header, body, registry, store, clock, output))
+    TokenReply::from(revocation_endpoint::revoke(header, body, registry, store, clock, output))
 }
 
 // The access token check: a bare access token.
@@ -111,5 +109,5 @@ pub fn poplarchime_check(token: &[u8], registry: &[u8], store: &mut [u8], clock:
     ensures { record { answer = result; output = []; store = store.new }
         ≡ in_numbers check_reply (check_outcome token.now registry.now store.old clock) }
 {
-    numbers::check_reply(token_check::check(token, registry, store, clock))
+    CheckReply::from(token_check::check(token, registry, store, clock))
 }

@@ -1,4 +1,5 @@
-// The numbers of each case of an answer.
+// The numbers of each case of an answer: include/poplarchime.h says them to a C host, so they stay. Functions and no `From`: the
+// enums are another crate's, and each has several numbers.
 ghost use Rattle.std.specs.Prelude.{◌≡◌};
 ghost use Rattle.protocol.specs.Answers.{input_number, page_number, refusal_number, error_number, failure_status, refusal_status, status_of};
 ghost use Rattle.authorization_server.specs.Numbers.{decision_number, decision_error, authorization_reply, token_reply, live_reply, check_reply};
@@ -45,9 +46,7 @@ fn refusal_number(x: Refusal) -> u32
     match x {
         Refusal::Unfit(i) => input_number(i),
         Refusal::ErrorPage(p) => page_number(p),
-        Refusal::Redirect(_) => 0,
-        Refusal::Token(_) => 0,
-        Refusal::Failed(_) => 0,
+        _ => 0,
     }
 }
 
@@ -55,11 +54,8 @@ fn error_number(x: Refusal) -> u32
     ensures { result ≡ error_number x }
 {
     match x {
-        Refusal::Unfit(_) => 0,
-        Refusal::ErrorPage(_) => 0,
-        Refusal::Redirect(w) => error_words::number(w),
-        Refusal::Token(w) => error_words::number(w),
-        Refusal::Failed(_) => 0,
+        Refusal::Redirect(w) | Refusal::Token(w) => error_words::number(w),
+        _ => 0,
     }
 }
 
@@ -67,11 +63,9 @@ fn refusal_status(x: Refusal) -> u32
     ensures { result ≡ refusal_status x }
 {
     match x {
-        Refusal::Unfit(_) => 0,
-        Refusal::ErrorPage(_) => 0,
-        Refusal::Redirect(_) => 0,
         Refusal::Token(w) => error_words::status(w),
         Refusal::Failed(f) => failure_status(f),
+        _ => 0,
     }
 }
 
@@ -79,8 +73,8 @@ fn decision_number(d: Decision) -> u32
     ensures { result ≡ decision_number d }
 {
     match d {
-        Decision::Grant => 0,
-        Decision::Refuse(x) => refusal_number(x),
+        Ok(()) => 0,
+        Err(x) => refusal_number(x),
     }
 }
 
@@ -88,8 +82,8 @@ fn decision_error(d: Decision) -> u32
     ensures { result ≡ decision_error d }
 {
     match d {
-        Decision::Grant => 0,
-        Decision::Refuse(x) => error_number(x),
+        Ok(()) => 0,
+        Err(x) => error_number(x),
     }
 }
 
@@ -97,68 +91,65 @@ fn status_of(d: Decision) -> u32
     ensures { result ≡ status_of d }
 {
     match d {
-        Decision::Grant => 200,
-        Decision::Refuse(x) => refusal_status(x),
+        Ok(()) => 200,
+        Err(x) => refusal_status(x),
     }
 }
 
-pub(crate) fn authorization_reply(a: AuthorizationAnswer) -> AuthorizationReply
-    ensures { result ≡ authorization_reply a }
-{
-    let decision = a.decision;
-    AuthorizationReply {
-        refusal: decision_number(decision),
-        error: decision_error(decision),
-        length: a.length,
+impl From<AuthorizationAnswer> for AuthorizationReply {
+    ghost from_gives = { λ a r. r ≡ authorization_reply a };
+
+    fn from(a: AuthorizationAnswer) -> Self {
+        let decision = a.decision;
+        AuthorizationReply {
+            refusal: decision_number(decision),
+            error: decision_error(decision),
+            length: a.length,
+        }
     }
 }
 
-pub(crate) fn token_reply(a: TokenAnswer) -> TokenReply
-    ensures { result ≡ token_reply a }
-{
-    let decision = a.decision;
-    TokenReply {
-        refusal: decision_number(decision),
-        status: status_of(decision),
-        error: decision_error(decision),
-        challenge: a.challenge as u32,
-        length: a.length,
+impl From<TokenAnswer> for TokenReply {
+    ghost from_gives = { λ a r. r ≡ token_reply a };
+
+    fn from(a: TokenAnswer) -> Self {
+        let decision = a.decision;
+        TokenReply {
+            refusal: decision_number(decision),
+            status: status_of(decision),
+            error: decision_error(decision),
+            challenge: u32::from(a.challenge),
+            length: a.length,
+        }
     }
 }
 
-fn live_reply(l: LiveToken) -> CheckReply
-    ensures { result ≡ live_reply l }
-{
-    CheckReply {
-        refusal: 0,
-        live: 1,
-        client: l.client as u32,
-        farm: l.farm,
-        scope: l.scope as u32,
-        secondsleft: l.left,
-    }
-}
+impl From<LiveToken> for CheckReply {
+    ghost from_gives = { λ l r. r ≡ live_reply l };
 
-pub(crate) fn check_reply(a: CheckAnswer) -> CheckReply
-    ensures { result ≡ check_reply a }
-{
-    match a {
-        CheckAnswer::Refused(x) => CheckReply {
-            refusal: refusal_number(x),
-            live: 0,
-            client: 0,
-            farm: 0,
-            scope: 0,
-            secondsleft: 0,
-        },
-        CheckAnswer::NotLive => CheckReply {
+    fn from(l: LiveToken) -> Self {
+        CheckReply {
             refusal: 0,
-            live: 0,
-            client: 0,
-            farm: 0,
-            scope: 0,
-            secondsleft: 0,
-        },
-        CheckAnswer::Live(l) => live_reply(l),
+            live: 1,
+            client: u32::from(l.client),
+            farm: l.farm,
+            scope: u32::from(l.scope),
+            secondsleft: l.left,
+        }
+    }
+}
+
+impl From<CheckAnswer> for CheckReply {
+    ghost from_gives = { λ a r. r ≡ check_reply a };
+
+    fn from(a: CheckAnswer) -> Self {
+        match a {
+            CheckAnswer::Refused(x) => CheckReply {
+                refusal: refusal_number(x),
+                ..CheckReply::default()
+            },
+            CheckAnswer::NotLive => CheckReply::default(),
+            CheckAnswer::Live(l) => CheckReply::from(l),
+        }
     }
 }

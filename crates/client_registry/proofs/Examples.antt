@@ -12,9 +12,7 @@ use Rattle.client_registry.specs.Layout.{max_clients, at_id, at_redirect, at_sco
 use Rattle.client_registry.specs.Registry.{Client, sound_text, sound_id, sound_redirect, sound_secret, sound_field, sound_common, sound_public, sound_confidential, sound_record, record_size, records_behind, sound_records, clients_of, distinct, fit_registry, fitness_of}
 use Rattle.client_registry.specs.Lookup.{start_of, find_client}
 use Rattle.client_registry.specs.Sample.{record_of, registry_of, sample_confidential, sample_public, sample_clients, sample_registry}
-use Rattle.client_registry.specs.declared.Fitness.{Fitness}
-use Rattle.client_registry.specs.declared.Fitness.TheVariants.{Clients, Unfit}
-use Rattle.client_registry.specs.declared.FoundClient.TheVariants.{At, Unknown}
+use Rattle.std.specs.Prelude.{Option, Some, None}
 
 -- a public client with this id
 abbrev called : List ℕ → Client
@@ -43,8 +41,8 @@ registries =
     ∷ set sample_registry confidential_size 3  -- no kind
     ∷ []
 
-said : List Fitness
-said = Clients 2 ∷ Clients max_clients ∷ Unfit ∷ Unfit ∷ Unfit ∷ Unfit ∷ Unfit ∷ Unfit ∷ Unfit ∷ Unfit ∷ Unfit ∷ Unfit ∷ Unfit ∷ []
+said : List (Option ℕ)
+said = Some 2 ∷ Some max_clients ∷ None ∷ None ∷ None ∷ None ∷ None ∷ None ∷ None ∷ None ∷ None ∷ None ∷ None ∷ []
 
 registries-said : map fitness_of registries ≡ said
 unfolding registries said fit_registry distinct sound_records records_behind record_size sound_record sound_confidential sound_public sound_common sound_field sound_secret sound_redirect sound_id sound_text every same sample_registry sample_clients sample_public sample_confidential registry_of record_of
@@ -55,6 +53,6 @@ unfolding records_behind record_size sample_registry sample_clients sample_publi
 sample-clients = refl
 
 sample-found : map (find_client sample_registry) (bytes "s6BhdRkqt3" ∷ bytes "barnapp" ∷ bytes "barnap" ∷ [] ∷ [])
-    ≡ At (record { number = 0; start = 0 }) ∷ At (record { number = 1; start = confidential_size }) ∷ Unknown ∷ Unknown ∷ []
+    ≡ Some (record { number = 0; start = 0 }) ∷ Some (record { number = 1; start = confidential_size }) ∷ None ∷ None ∷ []
 unfolding find_client index_where start_of same records_behind record_size sample_registry sample_clients sample_public sample_confidential registry_of record_of
 sample-found = refl

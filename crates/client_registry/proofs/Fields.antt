@@ -12,11 +12,11 @@ use Prim.Native.Nat.{ℕ, ◌+◌, ◌-◌, ◌≤◌, ◌<◌}
 use native.Mathlib.Omega.{arith}
 use borrow.Author.Tests.{le-leb, lt-leb, leb-true}
 use lib.Dec.{leb, eqb}
-use lib.ListN.{length, take, get_or, replicate}
-use lib.Seq.{take-append_seam}
+use lib.ListN.{length, take, drop, get_or, replicate}
+use lib.Seq.{take-append_seam, take-take, drop-drop}
 use Rattle.octets.specs.Lists.{part, Bytes, every, is_zero, in_class, same}
 use Rattle.octets.proofs.Booleans.{and-three}
-use Rattle.octets.proofs.Lists.{every-zero, same-iff, class-bytes, length_part, part-add, part-to, part-one}
+use Rattle.octets.proofs.Lists.{every-zero, same-iff, class-bytes, length_part, part-add, part-to, part-one, drop-take}
 use Rattle.client_registry.specs.Layout.{id_room, redirect_room, secret_room}
 use Rattle.client_registry.specs.Registry.{sound_text, sound_id, sound_redirect, sound_secret, sound_field, field_text, field_rest}
 use Rattle.client_registry.specs.Sample.{field_of}
@@ -42,19 +42,15 @@ text-within room low high except x n e h = rw (e, le-leb n room h) (ap (λ (q : 
 
 -- so the scan of a field with n bytes in use tests n, the bytes in use and the bytes behind them
 pub field-tests : (room low high except : ℕ) (r : List ℕ) (at n : ℕ) → at + 1 + room ≤ length r → n ≡ get_or r at 0 → n ≤ room
-    → (leb 1 n
-    && every (in_class low high except) (part r (at + 1) (at + 1 + n - (at + 1)))
-    && every is_zero (part r (at + 1 + n) (at + 1 + room - (at + 1 + n))))
-    ≡ sound_field (sound_text room low high except) r at room
+    → let f = part r (at + 1) (at + 1 + room - (at + 1)) in
+    (leb 1 n && every (in_class low high except) (take n f) && every is_zero (drop n f)) ≡ sound_field (sound_text room low high except) r at room
 field-tests room low high except r at n h e w =
-    let d = get_or r at 0 in
-    let used = part-to r (at + 1) (at + 1 + n) d (omega arith) in
-    let rest = part-to r (at + 1 + n) (at + 1 + room) (room - n) (omega arith) ∙ ap (λ (m : ℕ). part r (at + 1 + m) (room - m)) e in
-    let x = field_text r at in
-    let t = text-within room low high except x n (length_part r (at + 1) d (omega arith) ∙ sym e) w in
-    ap₂ (λ (u z : List ℕ). leb 1 n && every (in_class low high except) u && every is_zero z) used rest
-    ∙ ap (λ (q : Bool). q && every is_zero (field_rest r at room)) (sym t)
-    ∙ sym (field-within (sound_text room low high except) r at room (omega arith))
+    let f : part r (at + 1) (at + 1 + room - (at + 1)) ≡ part r (at + 1) room = part-to r (at + 1) (at + 1 + room) room (omega arith) in
+    let used : take n (part r (at + 1) room) ≡ field_text r at = rw (← e) (take-take n room (drop (at + 1) r) w) in
+    let rest : drop n (part r (at + 1) room) ≡ field_rest r at room = rw (← e) (drop-take (drop (at + 1) r) room n ∙ rw drop-drop) in
+    let t = text-within room low high except (field_text r at) n (rw (← e) (length_part r (at + 1) n (omega arith))) w in
+    rw (f, used, rest) (ap (λ (q : Bool). q && every is_zero (field_rest r at room)) (sym t)
+    ∙ sym (field-within (sound_text room low high except) r at room (omega arith)))
 
 -- ---- what a sound field and a sound text give
 

@@ -3,7 +3,6 @@
 -- Of use above: Fit, Clients and Lookup; Fields for the bytes of a text.
 pub mod Fields
 pub mod Records
-pub mod Walk
 pub mod Fit
 pub mod Clients
 pub mod Lookup

@@ -1,79 +1,41 @@
 -- Laws of a record, and of the records of a registry.
 --
--- In order: the size of a record; what a scan of a record tests; what a sound record gives; the records from a position
--- on, one after the other; a sound record where it lies in the registry; equal ids.
+-- In order: the size of a record; what a sound record gives; the records, one after the other; a sound record where it lies
+-- in the registry; equal ids.
 --
--- Not here: a field by itself (`Fields`); a walk over the records (`Walk`); what a fit registry gives (`Fit`, `Clients`).
+-- Not here: a field by itself (`Fields`); the record of each client (`Lookup`); what a fit registry gives (`Fit`, `Clients`).
 -- Assumes nothing.
 use mathlib.Core.Path.{◌≡◌, refl, sym, ap, ◌∙◌}
-use mathlib.Core.Bool.{Bool, true, false, cond, not, ◌&&◌, ◌||◌, and-true, and-false, or-false}
+use mathlib.Core.Bool.{Bool, true, false, cond, not, ◌&&◌, ◌||◌}
 use mathlib.Core.List.{List, [], ◌∷◌}
 use mathlib.Core.Logic.{◌⊎◌, inl, inr, ⊎_elim}
 use Prim.Native.Nat.{ℕ, zero, suc, ◌+◌, ◌-◌, ◌≤◌, ◌<◌}
+use Rattle.std.specs.Prelude.{min}
+use Rattle.std.proofs.lemmas.List.{take_min, drop_min}
 use native.Mathlib.Nat.{add-zero}
 use native.Mathlib.Omega.{arith}
-use borrow.Author.Tests.{eq-eqb, ne_eqb, eqb-true, eqb-false, not-true}
+use borrow.Author.Tests.{eqb-true, eqb-false, not-true}
 use lib.Dec.{eqb, lit≤}
-use lib.ListN.{length, take, drop, get_or, length-take, length-drop, drop_of_length-le}
-use lib.Seq.{drop-cons, drop-drop, get_or-take, get_or-drop}
+use lib.ListN.{length, take, drop, get_or, length-take, length-drop}
+use lib.Seq.{get_or-take, get_or-drop}
 use Rattle.octets.specs.Lists.{part, Bytes, same}
 use Rattle.octets.proofs.Booleans.{and_left, and_right, and-three}
 use Rattle.octets.proofs.Lists.{nil-bytes, tail-bytes, take-bytes}
 use Rattle.client_registry.specs.Layout.{public_kind, confidential_kind, id_room, redirect_room, secret_room, at_id, at_redirect, at_scope, at_secret, public_size, confidential_size}
-use Rattle.client_registry.specs.Registry.{sound_text, sound_id, sound_redirect, sound_secret, sound_field, field_text, sound_common, sound_public, sound_confidential, sound_record, record_size, records_behind, records}
+use Rattle.client_registry.specs.Registry.{sound_id, sound_redirect, sound_secret, sound_field, field_text, sound_common, sound_public, sound_confidential, sound_record, record_size, records_behind, records}
 use Rattle.client_registry.specs.Lookup.{record_at, next_of}
 use Rattle.client_registry.proofs.Fields.{Field, sound-field, same-field}
 
 -- ---- the size of a record
 
-module _ (k : ℕ) where
-  pub size-public : k ≡ public_kind → record_size k ≡ public_size
-  unfolding record_size
-  size-public e = rw (eq-eqb k public_kind e)
-
-  pub size-confidential : (k ≡ public_kind → ⊥) → k ≡ confidential_kind → record_size k ≡ confidential_size
-  unfolding record_size
-  size-confidential n e = rw (ne_eqb k public_kind n, eq-eqb k confidential_kind e)
-
-  pub size-other : (k ≡ public_kind → ⊥) → (k ≡ confidential_kind → ⊥) → record_size k ≡ 1
-  unfolding record_size
-  size-other n m = rw (ne_eqb k public_kind n, ne_eqb k confidential_kind m)
-
-  pub size-least : 1 ≤ record_size k
-  unfolding record_size
-  size-least = by (eqb k public_kind) (eqb k confidential_kind)
-    where
-      by : (p q : Bool) → 1 ≤ cond p public_size (cond q confidential_size 1)
-      by true q = lit≤ tt
-      by false true = lit≤ tt
-      by false false = lit≤ tt
-
--- ---- what a scan of a record tests
-
-module _ (r : List ℕ) where
-  pub tests-common : (sound_field (sound_text id_room 0x20 0x7E 0x3A) r at_id id_room
-      && sound_field (sound_text redirect_room 0x21 0x7E 0x23) r at_redirect redirect_room
-      && not (eqb (get_or r at_scope 0) 0)) ≡ sound_common r
-  unfolding sound_common sound_id sound_redirect
-  tests-common = refl
-
-  pub tests-public : length r ≡ public_size → (eqb (get_or r 0 0) public_kind && sound_common r) ≡ sound_record r
-  unfolding sound_record sound_public sound_confidential
-  tests-public e =
-      let n : eqb (length r) confidential_size ≡ false = ne_eqb (length r) confidential_size (λ d. absurd (omega arith)) in
-      rw (eq-eqb (length r) public_size e, n, and-true, and-false, or-false)
-
-  pub tests-confidential : length r ≡ confidential_size
-      → (eqb (get_or r 0 0) confidential_kind && sound_common r && sound_field (sound_text secret_room 0x20 0x7E 0x00) r at_secret secret_room)
-      ≡ sound_record r
-  unfolding sound_record sound_public sound_confidential sound_secret
-  tests-confidential e =
-      let n : eqb (length r) public_size ≡ false = ne_eqb (length r) public_size (λ d. absurd (omega arith)) in
-      rw (eq-eqb (length r) confidential_size e, n, and-false, and-true)
-
-  pub tests-neither : (length r ≡ public_size → ⊥) → (length r ≡ confidential_size → ⊥) → sound_record r ≡ false
-  unfolding sound_record sound_public sound_confidential
-  tests-neither n m = simp (ne_eqb (length r) public_size n, ne_eqb (length r) confidential_size m, and-false)
+pub size-least : (k : ℕ) → 1 ≤ record_size k
+unfolding record_size
+size-least k = by (eqb k public_kind) (eqb k confidential_kind)
+  where
+    by : (p q : Bool) → 1 ≤ cond p public_size (cond q confidential_size 1)
+    by true q = lit≤ tt
+    by false true = lit≤ tt
+    by false false = lit≤ tt
 
 -- ---- what a sound record gives
 
@@ -143,13 +105,14 @@ module _ (r : List ℕ) (sound : sound_record r ≡ true) where
 
   -- it is as long as its kind says
   pub sound-size : length r ≡ record_size (get_or r 0 0)
+  unfolding record_size
   sound-size =
       ⊎_elim
-      (λ (p : Public r). p.size ∙ sym (size-public (get_or r 0 0) p.kind))
-      (λ (c : Confidential r). c.size ∙ sym (size-confidential (get_or r 0 0) (λ e. absurd (omega (arith, c.kind))) c.kind))
+      (λ (p : Public r). p.size ∙ sym (ap record_size p.kind))
+      (λ (c : Confidential r). c.size ∙ sym (ap record_size c.kind))
       (sound-kinds r sound)
 
--- ---- the records from a position on
+-- ---- the records, one after the other
 
 records-behind : (n : ℕ) (l : List ℕ) → records_behind n l ≡ records (drop n l)
 unfolding records_behind
@@ -157,25 +120,24 @@ records-behind zero l = refl
 records-behind (suc n) [] = refl
 records-behind (suc n) (k ∷ t) = records-behind n t
 
-records-cons : (k : ℕ) (t : List ℕ) → records (k ∷ t) ≡ take (record_size k) (k ∷ t) ∷ records (drop (record_size k) (k ∷ t))
+pub records-nil : records [] ≡ []
+unfolding records_behind
+records-nil = refl
+
+pub no-records : (b : List ℕ) → length b ≡ 0 → records b ≡ []
+no-records [] h = records-nil
+no-records (k ∷ t) h = absurd (omega arith)
+
+pub records-cons : (k : ℕ) (t : List ℕ) → records (k ∷ t) ≡ take (record_size k) (k ∷ t) ∷ records (drop (record_size k) (k ∷ t))
 unfolding records_behind
 records-cons k t =
     let e : suc (record_size k - 1) ≡ record_size k = omega (arith, size-least k) in
     ap (λ (l : List (List ℕ)). take (record_size k) (k ∷ t) ∷ l) (records-behind (record_size k - 1) t ∙ ap (λ (n : ℕ). records (drop n (k ∷ t))) e)
 
--- the next record, and those past it
-pub records-step : (b : List ℕ) (at : ℕ) → at < length b
-    → records (drop at b) ≡ record_at b at ∷ records (drop (at + record_size (get_or b at 0)) b)
-records-step b at h =
-    let k = get_or b at 0 in
-    let e : drop at b ≡ k ∷ drop (suc at) b = drop-cons b at 0 h in
-    ap records e ∙ records-cons k (drop (suc at) b)
-    ∙ ap (λ (l : List ℕ). take (record_size k) l ∷ records (drop (record_size k) l)) (sym e)
-    ∙ ap (λ (l : List ℕ). record_at b at ∷ records l) (drop-drop (record_size k) at b)
-
-pub records-end : (b : List ℕ) (at : ℕ) → length b ≤ at → records (drop at b) ≡ []
-unfolding records_behind
-records-end b at h = rw (drop_of_length-le b h)
+-- the first record, which is what is left where that is less than its kind says
+pub first-record : (b : List ℕ) → 0 < length b → let n = min (record_size (get_or b 0 0)) (length b) in records b ≡ take n b ∷ records (drop n b)
+first-record [] h = absurd (omega arith)
+first-record (k ∷ t) h = rw (take_min (record_size k) (k ∷ t), drop_min (record_size k) (k ∷ t)) (records-cons k t)
 
 -- the records of bytes are bytes
 pub records-bytes : (n : ℕ) (l : List ℕ) → Bytes l → (i : ℕ) → Bytes (get_or (records_behind n l) i [])

@@ -1,12 +1,10 @@
 -- Looking a client up by its id, and where its record lies.
-use Rattle.std.specs.Prelude.{ℕ, zero, suc, ◌+◌, ◌≤◌, ◌<◌, ◌≡◌, Bool, true, false, cond, List, [], ◌∷◌, ltb, length, get_or}
+use Rattle.std.specs.Prelude.{ℕ, zero, suc, ◌+◌, ◌≤◌, ◌<◌, ◌≡◌, Bool, true, false, cond, List, [], ◌∷◌, ltb, length, get_or, Option, Some, None}
 use Rattle.octets.specs.Lists.{part, same}
 use Rattle.octets.specs.Search.{index_where}
 use Rattle.client_registry.specs.Layout.{public_size}
 use Rattle.client_registry.specs.Registry.{Client, sound_record, record_size, records, client_of, clients_of}
 use Rattle.client_registry.specs.declared.Entry.{Entry}
-use Rattle.client_registry.specs.declared.FoundClient.{FoundClient}
-use Rattle.client_registry.specs.declared.FoundClient.TheVariants.{At, Unknown}
 
 -- ---- by the clients
 
@@ -39,8 +37,8 @@ abbrev pub entry_of : List ℕ → ℕ → Entry
 entry_of b n = record { number = n; start = start_of n (records b) }
 
 -- the client with this id
-unfoldable pub find_client : List ℕ → List ℕ → FoundClient
-find_client b id = cond (is_known id (clients_of b)) (At (entry_of b (number_of id (clients_of b)))) Unknown
+unfoldable pub find_client : List ℕ → List ℕ → Option Entry
+find_client b id = cond (is_known id (clients_of b)) (Some (entry_of b (number_of id (clients_of b)))) None
 
 -- the record that starts at `at`
 abbrev pub record_at : List ℕ → ℕ → List ℕ

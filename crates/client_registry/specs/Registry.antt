@@ -1,11 +1,9 @@
 -- The client registry (document 01's register): which bytes are one, and the clients that it holds.
 --
 -- In order: the texts of a client; a field; a record; the records of a registry; when it is fit; its clients.
-use Rattle.std.specs.Prelude.{ℕ, zero, suc, ◌+◌, ◌-◌, Bool, true, cond, not, ◌&&◌, ◌||◌, List, [], ◌∷◌, map, leb, eqb, length, take, get_or}
+use Rattle.std.specs.Prelude.{ℕ, zero, suc, ◌+◌, ◌-◌, Bool, true, cond, not, ◌&&◌, ◌||◌, List, [], ◌∷◌, map, leb, eqb, length, take, get_or, Option, Some, None}
 use Rattle.octets.specs.Lists.{part, every, is_zero, in_class, same}
 use Rattle.client_registry.specs.Layout.{max_clients, public_kind, confidential_kind, id_room, redirect_room, secret_room, at_id, at_redirect, at_scope, at_secret, public_size, confidential_size}
-use Rattle.client_registry.specs.declared.Fitness.{Fitness}
-use Rattle.client_registry.specs.declared.Fitness.TheVariants.{Clients, Unfit}
 
 -- ---- texts
 
@@ -126,8 +124,8 @@ unfoldable pub fit_registry : List ℕ → Bool
 fit_registry b = sound_records b && distinct (ids_of b)
 
 -- what is said of bytes that pass a test, or do not: how many clients they hold
-abbrev pub count_if : Bool → List ℕ → Fitness
-count_if q b = cond q (Clients (length (clients_of b))) Unfit
+abbrev pub count_if : Bool → List ℕ → Option ℕ
+count_if q b = cond q (Some (length (clients_of b))) None
 
-abbrev pub fitness_of : List ℕ → Fitness
+abbrev pub fitness_of : List ℕ → Option ℕ
 fitness_of b = count_if (fit_registry b) b

@@ -1,6 +1,7 @@
 // The numbers of specs/Layout.antt: no other file of src/ has one of them.
 pub const MAX_CLIENTS: u8 = 64;
 
+// Kinds are numbers, and no enum: each is only compared with a record's first byte, and no function hands one on.
 pub const PUBLIC_KIND: u8 = 1;
 
 pub const CONFIDENTIAL_KIND: u8 = 2;

@@ -4,20 +4,17 @@
 // readers of a client's parts take.
 #![tactic(auto)]
 
-ghost use Rattle.std.specs.Prelude.{◌≡◌, true, ◌+◌, ◌<◌, ◌≤◌, length, drop, get_or};
+ghost use Rattle.std.specs.Prelude.{◌≡◌, true, ◌≤◌, length};
+ghost use Rattle.std.specs.Iterator.{YieldsFirstRef, item_count};
 ghost use Rattle.octets.specs.Lists.{every, same};
 ghost use Rattle.client_registry.specs.Layout.{public_size};
-ghost use Rattle.client_registry.specs.Registry.{sound_text, sound_field, sound_common, sound_record, field_text, record_size, records, sound_records, client_of, clients_of, ids_of, differ, distinct, fit_registry, count_if, fitness_of};
-ghost use Rattle.client_registry.specs.Lookup.{client_at, record_at, next_of, find_client, IsRecordOf, IsEntry};
+ghost use Rattle.client_registry.specs.Registry.{sound_common, sound_record, record_size, records, sound_records, client_of, clients_of, ids_of, differ, distinct, fit_registry, count_if, fitness_of};
+ghost use Rattle.client_registry.specs.Lookup.{client_at, record_at, find_client, IsRecordOf, IsEntry};
 
+mod field;
 pub mod layout;
 
-// Whether bytes are a client registry: how many clients it has, which fits a byte, or that they are none.
-#[derive(Clone, Copy)]
-pub enum Fitness {
-    Clients(u8),
-    Unfit,
-}
+use field::{ID, REDIRECT, SECRET};
 
 // A client of a registry: its number, and where its record starts.
 #[derive(Clone, Copy)]
@@ -26,83 +23,62 @@ pub struct Entry {
     pub start: usize,
 }
 
-// What a look-up by id finds.
-#[derive(Clone, Copy)]
-pub enum FoundClient {
-    At(Entry),
-    Unknown,
-}
-
-// A byte as a length.
-fn wide(x: u8) -> usize
-    ensures { result ≡ x }
-{
-    x as usize
-}
-
-// ---- fields
-
-// The bytes in use of the field at `at`.
-fn field_text(r: &[u8], at: usize) -> &[u8]
-    requires { at + 1 + get_or r.now at 0 ≤ length r.now }
-    ensures { result.now ≡ field_text r.now at }
-{
-    let from = at + 1;
-    let to = from + wide(r[at]);
-    &r[from..to]
-}
-
-// Whether a field has 1 to `room` bytes in use, all of the class, and zeros behind them.
-fn field_is_sound(r: &[u8], at: usize, room: usize, low: u8, high: u8, except: u8) -> bool
-    requires { at + 1 + room ≤ length r.now }
-    ensures { result ≡ sound_field (sound_text room low high except) r.now at room }
-{
-    let used = wide(r[at]);
-    if room < used {
-        return false;
-    }
-    let from = at + 1;
-    let to = from + used;
-    let end = from + room;
-    (1 <= used)
-        & octets::all_in_class(&r[from..to], low, high, except)
-        & octets::all_zero(&r[to..end])
-}
-
 // ---- records
 
 // How many bytes a record of this kind takes; a byte that is no kind stands alone.
+// 1 and no Option: `records` is defined for any bytes, and counts it so.
+#[tactic(auto, unfolding(crate::specs::Registry::record_size))]
 fn record_size(kind: u8) -> usize
     ensures { result ≡ record_size kind }
 {
-    if kind == layout::PUBLIC_KIND {
-        return layout::PUBLIC_SIZE;
+    match kind {
+        layout::PUBLIC_KIND => layout::PUBLIC_SIZE,
+        layout::CONFIDENTIAL_KIND => layout::CONFIDENTIAL_SIZE,
+        _ => 1,
     }
-    if kind == layout::CONFIDENTIAL_KIND {
-        return layout::CONFIDENTIAL_SIZE;
+}
+
+// The records of any bytes, each as long as its kind says. The last is what is left, where that is less.
+#[derive(Clone, Copy)]
+struct EachRecord<'a> {
+    rest: &'a [u8],
+}
+
+fn each_record(b: &[u8]) -> EachRecord<'_>
+    ensures { result.rest.now ≡ b.now }
+{
+    EachRecord { rest: b }
+}
+
+impl<'a> Iterator for EachRecord<'a> {
+    type Item = &'a [u8];
+
+    ghost next_gives = { YieldsFirstRef (λ s. records s.rest.now) };
+
+    ghost remaining = { item_count (λ s. records s.rest.now) };
+
+    fn next(&mut self) -> Option<&'a [u8]> {
+        if self.rest.is_empty() {
+            return None;
+        }
+        let size = record_size(self.rest[0]).min(self.rest.len());
+        let (first, rest) = self.rest.split_at(size);
+        self.rest = rest;
+        Some(first)
     }
-    1
 }
 
 // Whether the parts that every record has are sound: the id, the redirect and the scope set.
+#[tactic(auto, unfolding(crate::specs::Registry::sound_common, crate::specs::Registry::sound_id, crate::specs::Registry::sound_redirect))]
 fn common_is_sound(r: &[u8]) -> bool
     requires { public_size ≤ length r.now }
     ensures { result ≡ sound_common r.now }
 {
-    field_is_sound(r, layout::AT_ID, layout::ID_ROOM, 0x20, 0x7e, b':')
-        & field_is_sound(
-            r,
-            layout::AT_REDIRECT,
-            layout::REDIRECT_ROOM,
-            0x21,
-            0x7e,
-            b'#',
-        )
-        & (r[layout::AT_SCOPE] != 0)
+    ID.is_sound(r) & REDIRECT.is_sound(r) & (r[layout::AT_SCOPE] != 0)
 }
 
-// Whether a record is sound: one of a kind, as long as its kind says, with sound parts. A secret's class excepts no
-// byte: 0 is outside its range.
+// Whether a record is sound: one of a kind, as long as its kind says, with sound parts.
+#[tactic(auto, unfolding(crate::specs::Registry::sound_record, crate::specs::Registry::sound_public, crate::specs::Registry::sound_confidential, crate::specs::Registry::sound_secret))]
 fn record_is_sound(r: &[u8]) -> bool
     ensures { result ≡ sound_record r.now }
 {
@@ -110,142 +86,109 @@ fn record_is_sound(r: &[u8]) -> bool
         return (r[0] == layout::PUBLIC_KIND) & common_is_sound(r);
     }
     if r.len() == layout::CONFIDENTIAL_SIZE {
-        return (r[0] == layout::CONFIDENTIAL_KIND)
-            & common_is_sound(r)
-            & field_is_sound(r, layout::AT_SECRET, layout::SECRET_ROOM, 0x20, 0x7e, 0);
+        return (r[0] == layout::CONFIDENTIAL_KIND) & common_is_sound(r) & SECRET.is_sound(r);
     }
     false
 }
 
+// ---- fitness
+
 // How many records there are, where they are 1 to 64 and each is sound.
-fn count_records(b: &[u8]) -> Fitness
+#[tactic(auto, unfolding(crate::specs::Registry::sound_records, octets::specs::Lists::every))]
+fn count_records(b: &[u8]) -> Option<u8>
     ensures { result ≡ count_if (sound_records b.now) b.now }
 {
-    let mut at = 0;
-    let mut n: u8 = 0;
-    while at < b.len() {
-        if n == layout::MAX_CLIENTS {
-            return Fitness::Unfit;
+    // no `count`, which would go over all the bytes, however many records they are
+    let mut n = 0;
+    for r in each_record(b) {
+        if (n == layout::MAX_CLIENTS) | !record_is_sound(r) {
+            return None;
         }
-        let size = record_size(b[at]);
-        if b.len() - at < size {
-            return Fitness::Unfit;
-        }
-        let next = at + size;
-        if !record_is_sound(&b[at..next]) {
-            return Fitness::Unfit;
-        }
-        at = next;
         n += 1;
     }
     if n == 0 {
-        return Fitness::Unfit;
+        return None;
     }
-    Fitness::Clients(n)
+    Some(n)
 }
 
-// ---- the records of sound ones
-
-// Where the record behind the one at `at` starts.
-fn next_start(b: &[u8], at: usize) -> usize
-    requires { sound_record (record_at b.now at) ≡ true }
-    ensures { (result ≡ next_of b.now at) × (at < result) × (result ≤ length b.now) }
-{
-    at + record_size(b[at])
-}
-
-// The record at `at`.
-fn record_at(b: &[u8], at: usize) -> &[u8]
-    requires { sound_record (record_at b.now at) ≡ true }
-    ensures { (result.now ≡ record_at b.now at) × (public_size ≤ length result.now) }
-{
-    let end = next_start(b, at);
-    &b[at..end]
-}
-
-// ---- ids
-
-// Whether the records at two places have the same id. Their id fields are compared whole: equal fields, equal ids.
-fn same_id(b: &[u8], at: usize, other: usize) -> bool
-    requires { (sound_record (record_at b.now at) ≡ true) × (sound_record (record_at b.now other) ≡ true) }
-    ensures { result ≡ same (client_of (record_at b.now at)).id (client_of (record_at b.now other)).id }
+// Whether two records have the same id. Their id fields are compared whole: equal fields, equal ids.
+fn same_id(one: &[u8], other: &[u8]) -> bool
+    requires { (sound_record one.now ≡ true) × (sound_record other.now ≡ true) }
+    ensures { result ≡ same (client_of one.now).id (client_of other.now).id }
 {
     let from = layout::AT_ID;
     let to = layout::AT_REDIRECT;
-    let one = record_at(b, at);
-    let two = record_at(b, other);
-    octets::equal(&one[from..to], &two[from..to])
+    octets::equal(&one[from..to], &other[from..to])
 }
 
-// Whether no record from `from` on has the id of the record at `at`.
-fn id_is_new(b: &[u8], at: usize, from: usize) -> bool
-    requires { (sound_record (record_at b.now at) ≡ true) × (every sound_record (records (drop from b.now)) ≡ true) }
-    ensures { result ≡ every (differ (client_of (record_at b.now at)).id) (ids_of (drop from b.now)) }
+// Whether none of the others has the id of a record.
+#[tactic(auto, unfolding(octets::specs::Lists::every))]
+fn id_is_new(r: &[u8], others: EachRecord) -> bool
+    requires { (sound_record r.now ≡ true) × (every sound_record (records others.rest.now) ≡ true) }
+    ensures { result ≡ every (differ (client_of r.now).id) (ids_of others.entry.rest.now) }
 {
-    let mut p = from;
-    while p < b.len() {
-        if same_id(b, at, p) {
+    for other in others {
+        if same_id(r, other) {
             return false;
         }
-        p = next_start(b, p);
     }
     true
 }
 
 // Whether no two records have the same id.
+#[tactic(auto, unfolding(crate::specs::Registry::sound_records, crate::specs::Registry::distinct, octets::specs::Lists::every))]
 fn ids_are_distinct(b: &[u8]) -> bool
     requires { sound_records b.now ≡ true }
     ensures { result ≡ distinct (ids_of b.now) }
 {
-    let mut place = 0;
-    while place < b.len() {
-        let next = next_start(b, place);
-        if !id_is_new(b, place, next) {
+    let mut others = each_record(b);
+    while let Some(r) = others.next() {
+        if !id_is_new(r, others) {
             return false;
         }
-        place = next;
     }
     true
 }
 
-// ---- the registry
-
-// Whether the bytes are a client registry, and of how many clients.
-pub fn fitness_of(b: &[u8]) -> Fitness
+// Of how many clients the bytes are a registry, which fits a byte; nothing where they are none.
+#[tactic(auto, unfolding(crate::specs::Registry::fit_registry))]
+pub fn fitness_of(b: &[u8]) -> Option<u8>
     ensures { result ≡ fitness_of b.now }
 {
-    let Fitness::Clients(n) = count_records(b) else {
-        return Fitness::Unfit;
-    };
+    let n = count_records(b)?;
     if !ids_are_distinct(b) {
-        return Fitness::Unfit;
+        return None;
     }
-    Fitness::Clients(n)
+    Some(n)
 }
 
-// Whether the record at `at` has this id.
-fn has_id(b: &[u8], at: usize, id: &[u8]) -> bool
-    requires { sound_record (record_at b.now at) ≡ true }
-    ensures { result ≡ same (client_of (record_at b.now at)).id id.now }
+// ---- the look-up
+
+// Whether a record has this id.
+fn has_id(r: &[u8], id: &[u8]) -> bool
+    requires { sound_record r.now ≡ true }
+    ensures { result ≡ same (client_of r.now).id id.now }
 {
-    octets::equal(field_text(record_at(b, at), layout::AT_ID), id)
+    octets::equal(ID.text(r), id)
 }
 
 // The client with this id.
-pub fn find(b: &[u8], id: &[u8]) -> FoundClient
+pub fn find(b: &[u8], id: &[u8]) -> Option<Entry>
     requires { fit_registry b.now ≡ true }
     ensures { result ≡ find_client b.now id.now }
 {
+    // no `position`, which gives the number alone: where the record starts would take a second walk
     let mut start = 0;
     let mut number: u8 = 0;
-    while start < b.len() {
-        if has_id(b, start, id) {
-            return FoundClient::At(Entry { number, start });
+    for r in each_record(b) {
+        if has_id(r, id) {
+            return Some(Entry { number, start });
         }
-        start = next_start(b, start);
+        start += r.len();
         number += 1;
     }
-    FoundClient::Unknown
+    None
 }
 
 // ---- the parts of a client
@@ -255,7 +198,8 @@ fn record_of(b: &[u8], e: Entry) -> &[u8]
     requires { (fit_registry b.now ≡ true) × IsEntry b.now e }
     ensures { IsRecordOf (client_at (clients_of b.now) e.number) result.now }
 {
-    record_at(b, e.start)
+    let end = e.start + record_size(b[e.start]);
+    &b[e.start..end]
 }
 
 // Whether a client has a secret.
@@ -272,7 +216,7 @@ pub fn redirect(b: &[u8], e: Entry) -> &[u8]
     requires { (fit_registry b.now ≡ true) × IsEntry b.now e }
     ensures { result.now ≡ (client_at (clients_of b.now) e.number).redirect }
 {
-    field_text(record_of(b, e), layout::AT_REDIRECT)
+    REDIRECT.text(record_of(b, e))
 }
 
 // The number of a client's scope set.
@@ -293,5 +237,5 @@ pub fn secret(b: &[u8], e: Entry) -> &[u8]
     if r[0] != layout::CONFIDENTIAL_KIND {
         return &r[0..0];
     }
-    field_text(r, layout::AT_SECRET)
+    SECRET.text(r)
 }

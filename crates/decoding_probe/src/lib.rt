@@ -29,8 +29,5 @@ pub extern "C" fn poplarchime_probe_decode(value: &[u8], out: &mut [u8]) -> usiz
 pub extern "C" fn poplarchime_probe_equals(value: &[u8], expected: &[u8]) -> u32
     ensures { result ≡ bit (same (decode value.now) expected.now) }
 {
-    if form_coding::value_equals(value, expected) {
-        return 1;
-    }
-    0
+    u32::from(form_coding::value_equals(value, expected))
 }

@@ -1,12 +1,12 @@
 -- Hex digits, and handles as text: 20 bytes in 40 lower-case digits.
-use Rattle.std.specs.Prelude.{ℕ, ◌+◌, ◌-◌, ◌*◌, ◌/◌, ◌%◌, List, [], ◌∷◌, Bool, false, cond, ◌&&◌, ◌||◌, leb, ltb, eqb, length, replicate}
-use Rattle.octets.specs.Lists.{every}
-use Rattle.encoding.specs.declared.HandleText.{HandleText}
+use Rattle.std.specs.Prelude.{ℕ, ◌+◌, ◌-◌, ◌*◌, ◌/◌, ◌%◌, List, [], ◌∷◌, Bool, false, cond, ◌&&◌, ◌||◌, leb, ltb, eqb, length, Option, Some, None, unwrap_or}
+use Rattle.octets.specs.Lists.{every, same}
 
--- the value of a hex digit, and 16 for any other byte. Upper-case letters count only where `any_case` says so
-unfoldable pub hex_value : Bool → ℕ → ℕ
+-- the value of a hex digit, if the byte is one. Upper-case letters count only where `any_case` says so
+unfoldable pub hex_value : Bool → ℕ → Option ℕ
 hex_value any_case c =
-    cond (leb 48 c && leb c 57) (c - 48) (cond (leb 97 c && leb c 102) (c - 87) (cond (any_case && (leb 65 c && leb c 70)) (c - 55) 16))
+    cond (leb 48 c && leb c 57) (Some (c - 48))
+    (cond (leb 97 c && leb c 102) (Some (c - 87)) (cond (any_case && (leb 65 c && leb c 70)) (Some (c - 55)) None))
 
 -- the hex digit of a number below 16; `ten` is the digit of 10, which is `A` or `a`
 unfoldable pub hex_digit : ℕ → ℕ → ℕ
@@ -25,12 +25,21 @@ is_lower_hex c = leb 48 c && leb c 57 || leb 97 c && leb c 102
 unfoldable pub is_handle_text : List ℕ → Bool
 is_handle_text t = eqb (length t) 40 && every is_lower_hex t
 
--- the bytes that pairs of hex digits stand for
+-- the value of a lower-case hex digit; any other byte counts as 0
+abbrev pub lower_value : ℕ → ℕ
+lower_value c = unwrap_or (hex_value false c) 0
+
+-- the bytes that pairs of lower-case hex digits stand for
 unfoldable pub unhex : List ℕ → List ℕ
 unhex [] = []
 unhex (h ∷ []) = []
-unhex (h ∷ l ∷ t) = (hex_value false h * 16 + hex_value false l) ∷ unhex t
+unhex (h ∷ l ∷ t) = (lower_value h * 16 + lower_value l) ∷ unhex t
 
--- what a presented text is: a handle with its bytes, or no handle, and then the bytes are zero
-unfoldable pub read_handle : List ℕ → HandleText
-read_handle t = record { valid = is_handle_text t; bytes = cond (is_handle_text t) (unhex t) (replicate 20 0) }
+-- the handle that a presented text is, if it is one
+unfoldable pub read_handle : List ℕ → Option (List ℕ)
+read_handle t = cond (is_handle_text t) (Some (unhex t)) None
+
+-- what was presented, if anything was, is these bytes: of a handle and of a digest
+abbrev pub presents : Option (List ℕ) → List ℕ → Bool
+presents None h = false
+presents (Some b) h = same b h

@@ -9,6 +9,7 @@ use mathlib.Core.List.{List, [], ◌∷◌}
 use mathlib.Core.Bool.{Bool, true, false, cond, ◌&&◌}
 use native.Mathlib.Omega.{arith}
 use borrow.Author.Tests.{lt-ltb, le-ltb, ltb-false, eqb-true, eqb-false}
+use Rattle.std.specs.Prelude.{Option, Some, None}
 use lib.Dec.{ltb, eqb, leb-zero}
 use lib.ListN.{get_or, length, take, set, length-set}
 use lib.Seq.{get_or-set_same, get_or-set_other, length-take-le}
@@ -20,8 +21,9 @@ use Rattle.form.specs.declared.Span.{Span}
 use Rattle.form.specs.declared.Cursor.{Cursor}
 use Rattle.form.specs.declared.Place.{Place}
 use Rattle.form.specs.Content.{pieces, piece_name}
-use Rattle.form.specs.Places.{place_count, unseen, all_unseen, rank, seen_again, enter, enter_all, places_of}
+use Rattle.form.specs.Places.{place_count, unseen, all_unseen, rank, seen_again, enter_at, enter, enter_all, places_of}
 use Rattle.form.proofs.Pieces.{First, first}
+use Rattle.form.proofs.Names.{is_rank}
 use Rattle.form.proofs.Steps.{Told}
 
 -- ---- a piece, by cases
@@ -31,9 +33,7 @@ pub record Entered (names : List (List ℕ)) (ps : List Place) (at end n : ℕ) 
   pub within : at + n ≤ end
   pub named : length (take n p) ≡ n
   pub empty : length p ≤ n + 1 → enter names ps at p ≡ ps
-  pub unknown : n + 1 < length p → (k : ℕ) → k ≡ rank (decode (take n p)) names → place_count ≤ k → enter names ps at p ≡ ps
-  pub known : n + 1 < length p → (k : ℕ) → k ≡ rank (decode (take n p)) names → k < place_count
-      → enter names ps at p ≡ set ps k (seen_again (get_or ps k unseen) (at + n + 1) end)
+  pub full : n + 1 < length p → enter names ps at p ≡ enter_at (rank (decode (take n p)) names) ps (at + n + 1) end
 
 pub entered : (names : List (List ℕ)) (ps : List Place) (s : List ℕ) (at end n : ℕ) → (at ≤ end) × (end ≤ length s)
     → n ≡ index_of 61 (part s at (end - at)) → Entered names ps at end n (part s at (end - at))
@@ -47,39 +47,70 @@ entered names ps s at end n (forward, fits) e = by (part s at (end - at)) (omega
           within = omega arith;
           named = length-take-le n p (omega arith);
           empty = λ h. rw (← e, le-ltb (n + 1) (length p) h);
-          unknown = λ h k f g. rw (← e, lt-ltb (n + 1) (length p) h, ← f, le-ltb k place_count g);
-          known = λ h k f g. rw (← e, lt-ltb (n + 1) (length p) h, ← f, lt-ltb k place_count g, to_end);
+          full = λ h. rw (← e, lt-ltb (n + 1) (length p) h, to_end);
         }
 
-module _ (names : List (List ℕ)) (ps : List Place) (at : ℕ) (p : List ℕ) where
-  -- the name's rank, and the place i with the piece's value
-  abbrev j : ℕ
-  j = rank (piece_name p) names
+pub known-at : (k : ℕ) (ps : List Place) (a e : ℕ) → k < place_count → enter_at (Some k) ps a e ≡ set ps k (seen_again (get_or ps k unseen) a e)
+unfolding enter_at
+known-at k ps a e h = rw (lt-ltb k place_count h)
 
+pub past-places : (k : ℕ) (ps : List Place) (a e : ℕ) → place_count ≤ k → enter_at (Some k) ps a e ≡ ps
+unfolding enter_at
+past-places k ps a e h = rw (le-ltb k place_count h)
+
+module _ (ps : List Place) (a e : ℕ) where
+  length-at : (r : Option ℕ) → length (enter_at r ps a e) ≡ length ps
+  unfolding enter_at
+  length-at None = refl
+  length-at (Some k) = by (ltb k place_count)
+    where
+      by : (b : Bool) → length (cond b (set ps k (seen_again (get_or ps k unseen) a e)) ps) ≡ length ps
+      by true = length-set ps k (seen_again (get_or ps k unseen) a e)
+      by false = refl
+
+  -- one place after a value of a name: it is seen again where the name ranks there
+  place-at : (k : ℕ) → k < place_count → length ps ≡ place_count → (r : Option ℕ)
+      → get_or (enter_at r ps a e) k unseen ≡ cond (is_rank k r) (seen_again (get_or ps k unseen) a e) (get_or ps k unseen)
+  unfolding enter_at
+  place-at k hk hp None = refl
+  place-at k hk hp (Some j) = by (ltb j place_count) refl (eqb j k) refl
+    where
+      again : ℕ → Place
+      again i = seen_again (get_or ps i unseen) a e
+
+      by : (y : Bool) → ltb j place_count ≡ y → (z : Bool) → eqb j k ≡ z
+          → get_or (cond y (set ps j (again j)) ps) k unseen ≡ cond z (again k) (get_or ps k unseen)
+      by true f true g = let l : k < length ps = omega arith in rw (eqb-true j k g) (get_or-set_same ps k (again k) unseen l)
+      by true f false g = get_or-set_other ps j k (again j) unseen (λ h. eqb-false j k g (sym h))
+      by false f true g = absurd (omega (arith, ltb-false j place_count f, eqb-true j k g))
+      by false f false g = refl
+
+module _ (names : List (List ℕ)) (ps : List Place) (at : ℕ) (p : List ℕ) where
+  -- the place k with the piece's value
   abbrev again : ℕ → Place
-  again i = seen_again (get_or ps i unseen) (at + index_of 61 p + 1) (at + length p)
+  again k = seen_again (get_or ps k unseen) (at + index_of 61 p + 1) (at + length p)
 
   pub length-enter : length (enter names ps at p) ≡ length ps
   unfolding enter
-  length-enter = by (ltb (index_of 61 p + 1) (length p) && ltb j place_count)
+  length-enter =
+      by (ltb (index_of 61 p + 1) (length p)) _ (length-at ps (at + index_of 61 p + 1) (at + length p) (rank (piece_name p) names))
     where
-      by : (b : Bool) → length (cond b (set ps j (again j)) ps) ≡ length ps
-      by true = length-set ps j (again j)
-      by false = refl
+      by : (b : Bool) (qs : List Place) → length qs ≡ length ps → length (cond b qs ps) ≡ length ps
+      by true qs e = e
+      by false qs e = refl
 
   -- one place after a piece: it is seen again where the piece has a value and a name that ranks there
   pub enter-place : (k : ℕ) → k < place_count → length ps ≡ place_count
-      → get_or (enter names ps at p) k unseen ≡ cond (ltb (index_of 61 p + 1) (length p) && eqb j k) (again k) (get_or ps k unseen)
+      → get_or (enter names ps at p) k unseen
+      ≡ cond (ltb (index_of 61 p + 1) (length p) && is_rank k (rank (piece_name p) names)) (again k) (get_or ps k unseen)
   unfolding enter
-  enter-place k hk hp = by (ltb (index_of 61 p + 1) (length p)) (ltb j place_count) refl (eqb j k) refl
+  enter-place k hk hp =
+      by (ltb (index_of 61 p + 1) (length p)) _ _ (place-at ps (at + index_of 61 p + 1) (at + length p) k hk hp (rank (piece_name p) names))
     where
-      by : (x y : Bool) → ltb j place_count ≡ y → (z : Bool) → eqb j k ≡ z
-          → get_or (cond (x && y) (set ps j (again j)) ps) k unseen ≡ cond (x && z) (again k) (get_or ps k unseen)
-      by false y f z g = refl
-      by true true f true g = let l : k < length ps = omega arith in rw (eqb-true j k g) (get_or-set_same ps k (again k) unseen l)
-      by true true f false g = get_or-set_other ps j k (again j) unseen (λ h. eqb-false j k g (sym h))
-      by true false f true g = absurd (omega (arith, ltb-false j place_count f, eqb-true j k g))
-      by true false f false g = refl
+      by : (b : Bool) (qs : List Place) (z : Bool) → get_or qs k unseen ≡ cond z (again k) (get_or ps k unseen)
+          → get_or (cond b qs ps) k unseen ≡ cond (b && z) (again k) (get_or ps k unseen)
+      by true qs z e = e
+      by false qs z e = refl
 
 -- ---- the pieces that remain
 

@@ -1,51 +1,74 @@
 -- Laws of `rank`: where a name stands in a list of names.
 --
--- In order: a walk over the names, as the code goes; in a list of names that differ a name ranks k exactly where it is
--- the k-th; no name ranks past the list and within the places.
+-- In order: the rank of a name by the first of the names and the others; in a list of names that differ a name ranks k
+-- exactly where it is the k-th; no name ranks past the list.
 -- Assumes nothing.
-use Prim.Native.Nat.{ℕ, zero, suc, ◌-◌, ◌<◌, ◌≤◌}
+use Prim.Native.Nat.{ℕ, zero, suc, ◌+◌, ◌<◌, ◌≤◌}
 use mathlib.Core.Path.{◌≡◌, refl, sym, ◌∙◌, ap}
 use mathlib.Core.List.{List, [], ◌∷◌}
 use mathlib.Core.Bool.{Bool, true, false, cond, not}
 use native.Mathlib.Nat.{not-suc-le-zero}
+use native.Mathlib.Numerals.{one-add}
 use native.Mathlib.Omega.{arith}
-use borrow.Author.Tests.{not-true}
-use lib.Dec.{eqb, eqb-suc-suc, eqb-suc-zero, eqb-zero-suc}
+use borrow.Author.Tests.{not-true, ne_eqb, lt-ltb, le-ltb, ltb-true, ltb-false}
+use lib.Dec.{eqb, ltb, eqb-suc-suc, eqb-zero-suc}
 use lib.ListN.{get_or, length}
-use Rattle.octets.specs.Lists.{part, every, same}
+use Rattle.std.specs.Prelude.{Option, Some, None}
+use Rattle.std.specs.List.{position_or_len}
+use Rattle.std.proofs.lemmas.List.Quantifiers.{position-Some}
+use Rattle.octets.specs.Lists.{every, same}
 use Rattle.octets.proofs.Booleans.{and_left, and_right}
 use Rattle.octets.proofs.Lists.{same-eq, every-at}
-use Rattle.octets.proofs.Pieces.{remaining, remaining-end}
-use Rattle.form.specs.declared.Span.{Span}
-use Rattle.form.specs.declared.Cursor.{Cursor}
-use Rattle.form.specs.Places.{place_count, rank, distinct}
-use Rattle.form.proofs.Steps.{Told}
+use Rattle.form.specs.Places.{rank, distinct}
 
--- ---- a walk over the names
+-- the rank is k
+abbrev pub is_rank : ℕ → Option ℕ → Bool
+is_rank k None = false
+is_rank k (Some j) = eqb j k
 
-module _ (n text : List ℕ) (at : ℕ) where
-  pub rank-end : length text < at → rank n (remaining 38 text at) ≡ place_count
-  unfolding rank
-  rank-end h = rw (remaining-end 38 text at h)
+-- ---- by the first of the names and the others
 
-  pub rank-next : (p : Span) (m : Cursor) → Told text at p m → (b : Bool) → same n (part text p.start (p.end - p.start)) ≡ b
-      → rank n (remaining 38 text at) ≡ cond b 0 (suc (rank n (remaining 38 text m.at)))
-  unfolding rank
-  rank-next p m t b e = rw (t.first, e)
+module _ (n m : List ℕ) (ms : List (List ℕ)) where
+  -- where the first name that n equals stands among the others, or past them
+  among : ℕ
+  among = position_or_len (same n) ms
+
+  rank-zero : is_rank 0 (rank n (m ∷ ms)) ≡ same n m
+  unfolding among
+  rank-zero = by (same n m) (ltb (1 + among) (suc (length ms)))
+    where
+      past : (b : Bool) → is_rank 0 (cond b (Some (1 + among)) None) ≡ false
+      past true = ne_eqb (1 + among) 0 (λ e. omega arith)
+      past false = refl
+
+      by : (q b : Bool) → is_rank 0 (cond (ltb (cond (not q) (1 + among) 0) (suc (length ms))) (Some (cond (not q) (1 + among) 0)) None) ≡ q
+      by true b = rw (lt-ltb 0 (suc (length ms)) (omega arith))
+      by false b = past (ltb (1 + among) (suc (length ms)))
+
+  rank-suc : (k : ℕ) → is_rank (suc k) (rank n (m ∷ ms)) ≡ cond (same n m) false (is_rank k (rank n ms))
+  unfolding among
+  rank-suc k = by (same n m)
+    where
+      past : (b : Bool) → ltb among (length ms) ≡ b
+          → is_rank (suc k) (cond (ltb (1 + among) (suc (length ms))) (Some (1 + among)) None) ≡ is_rank k (cond b (Some among) None)
+      past true e = rw (lt-ltb (1 + among) (suc (length ms)) (omega (arith, ltb-true among (length ms) e)), one-add, eqb-suc-suc)
+      past false e = rw (le-ltb (1 + among) (suc (length ms)) (omega (arith, ltb-false among (length ms) e)))
+
+      by : (q : Bool) → is_rank (suc k) (cond (ltb (cond (not q) (1 + among) 0) (suc (length ms))) (Some (cond (not q) (1 + among) 0)) None)
+          ≡ cond q false (is_rank k (rank n ms))
+      by true = rw (lt-ltb 0 (suc (length ms)) (omega arith), eqb-zero-suc)
+      by false = past (ltb among (length ms)) refl
 
 -- ---- a name of the list
 
 -- a name ranks k exactly where it is the k-th
 pub rank_is : (names : List (List ℕ)) → distinct names ≡ true → (n : List ℕ) (k : ℕ) → k < length names
-    → eqb (rank n names) k ≡ same n (get_or names k [])
-unfolding rank distinct
+    → is_rank k (rank n names) ≡ same n (get_or names k [])
+unfolding distinct
 rank_is [] d n k h = absurd (not-suc-le-zero h)
-rank_is (m ∷ ms) d n zero h = by (same n m)
-  where
-    by : (q : Bool) → eqb (cond q 0 (suc (rank n ms))) 0 ≡ q
-    by true = refl
-    by false = rw eqb-suc-zero
-rank_is (m ∷ ms) d n (suc k) h = by (same n m) refl (rank_is ms (and_right (every differs ms) (distinct ms) d) n k (omega arith))
+rank_is (m ∷ ms) d n zero h = rank-zero n m ms
+rank_is (m ∷ ms) d n (suc k) h =
+    rank-suc n m ms k ∙ by (same n m) refl (rank_is ms (and_right (every differs ms) (distinct ms) d) n k (omega arith))
   where
     differs : List ℕ → Bool
     differs j = not (same m j)
@@ -53,18 +76,16 @@ rank_is (m ∷ ms) d n (suc k) h = by (same n m) refl (rank_is ms (and_right (ev
     other : same m (get_or ms k []) ≡ false
     other = not-true (same m (get_or ms k [])) (every-at differs ms [] (and_left (every differs ms) (distinct ms) d) k (omega arith))
 
-    by : (q : Bool) → same n m ≡ q → eqb (rank n ms) k ≡ same n (get_or ms k [])
-        → eqb (cond q 0 (suc (rank n ms))) (suc k) ≡ same n (get_or ms k [])
-    by true e ih = rw eqb-zero-suc (sym (ap (λ (j : List ℕ). same j (get_or ms k [])) (same-eq n m e) ∙ other))
-    by false e ih = rw eqb-suc-suc ih
+    by : (q : Bool) → same n m ≡ q → is_rank k (rank n ms) ≡ same n (get_or ms k [])
+        → cond q false (is_rank k (rank n ms)) ≡ same n (get_or ms k [])
+    by true e ih = sym (ap (λ (j : List ℕ). same j (get_or ms k [])) (same-eq n m e) ∙ other)
+    by false e ih = ih
 
 -- ---- no name of the list
 
-pub rank-not : (n : List ℕ) (names : List (List ℕ)) (k : ℕ) → length names ≤ k → k < place_count → rank n names ≡ k → ⊥
-unfolding rank
-rank-not n [] k h hk e = omega arith
-rank-not n (m ∷ ms) k h hk e = by (same n m) (rank-not n ms) e
+pub rank-not : (n : List ℕ) (names : List (List ℕ)) (k : ℕ) → length names ≤ k → is_rank k (rank n names) ≡ false
+rank-not n names k h = by (rank n names) refl
   where
-    by : (q : Bool) → ((j : ℕ) → length ms ≤ j → j < place_count → rank n ms ≡ j → ⊥) → cond q 0 (suc (rank n ms)) ≡ k → ⊥
-    by true ih e = omega arith
-    by false ih e = ih (k - 1) (omega arith) (omega arith) (omega arith)
+    by : (r : Option ℕ) → rank n names ≡ r → is_rank k r ≡ false
+    by None e = refl
+    by (Some j) e = ne_eqb j k (λ f. omega (arith, (position-Some (same n) names j [] e).0))

@@ -8,7 +8,8 @@ use mathlib.Core.Path.{◌≡◌, refl, sym, ◌∙◌, ap}
 use mathlib.Core.List.{List, [], ◌∷◌}
 use mathlib.Core.Bool.{Bool, true, false, cond, not, ◌&&◌}
 use native.Mathlib.Omega.{arith}
-use borrow.Author.Tests.{ltb-true, ltb-false, leb-true, ne_eqb}
+use borrow.Author.Tests.{ltb-true, ltb-false, leb-true}
+use Rattle.std.specs.Prelude.{Option, Some, None}
 use lib.Dec.{ltb}
 use lib.ListN.{get_or, length, drop, get_or-replicate, drop_of_length-le}
 use lib.Seq.{drop-cons, drop-drop}
@@ -19,10 +20,8 @@ use Rattle.form_coding.specs.Coding.{decode, decode_after}
 use Rattle.form.specs.declared.Count.{Count}
 use Rattle.form.specs.declared.Count.TheVariants.{Missing, Once, Repeated}
 use Rattle.form.specs.declared.Place.{Place}
-use Rattle.form.specs.declared.Outcome.TheVariants.{WellFormed, Malformed}
-use Rattle.form.specs.declared.Form.{Form}
 use Rattle.form.specs.Content.{pieces, is_well_formed_form, piece_name, piece_value, gives, Value, once, add, value_in, form_value, is_repeated}
-use Rattle.form.specs.Places.{place_count, unseen, all_unseen, rank, one_more, seen_again, enter, places_of, read_of, view_as, view_of, Within, StandsAt, Stands, distinct, Says}
+use Rattle.form.specs.Places.{place_count, unseen, all_unseen, one_more, seen_again, enter, places_of, read_of, view_as, view_of, Within, StandsAt, Stands, distinct, Says}
 use Rattle.octets.proofs.Searches.{any-agree}
 use Rattle.form.proofs.Pieces.{First}
 use Rattle.form.proofs.Names.{rank_is, rank-not}
@@ -111,7 +110,7 @@ module _ (names : List (List ℕ)) (s : List ℕ) (d : distinct names ≡ true) 
   spare-unseen k h hk =
       kept names s (λ ps _. get_or ps k unseen ≡ unseen)
       (λ ps at p _ l _ old.
-      enter-place names ps at p k hk l ∙ rw (ne_eqb (rank (piece_name p) names) k (rank-not (piece_name p) names k h hk), and-false) old)
+      enter-place names ps at p k hk l ∙ rw (rank-not (piece_name p) names k h, and-false) old)
       (get_or-replicate place_count k unseen unseen hk)
 
   all-stand : is_well_formed_form s ≡ true → Stands names s (places_of names s)
@@ -130,11 +129,11 @@ module _ (names : List (List ℕ)) (s : List ℕ) (d : distinct names ≡ true) 
 -- ---- the reader's answer
 
 module _ (text s : List ℕ) where
-  pub read-malformed : is_well_formed_form s ≡ false → read_of (pieces text) s ≡ record { outcome = Malformed; places = all_unseen }
+  pub read-malformed : is_well_formed_form s ≡ false → read_of (pieces text) s ≡ None
   unfolding read_of
   read-malformed e = rw e
 
-  pub read-well-formed : is_well_formed_form s ≡ true → read_of (pieces text) s ≡ record { outcome = WellFormed; places = places_of (pieces text) s }
+  pub read-well-formed : is_well_formed_form s ≡ true → read_of (pieces text) s ≡ Some (places_of (pieces text) s)
   unfolding read_of
   read-well-formed e = rw e
 
@@ -145,11 +144,13 @@ module _ (text s : List ℕ) where
       by true e =
           rw (read-well-formed e)
           (record {
-            malformed = λ f. let z : ◌≡◌ {A = ℕ} 0 1 = cc in absurd (omega arith);
-            stands = λ f names k. rw k.parted (all-stand names s k.apart (leb-true (length names) place_count k.few) e);
+            malformed = λ f. absurd (cc);
+            stands = λ places f names k.
+                let g : places ≡ places_of (pieces text) s = cc in
+                rw (g, k.parted) (all-stand names s k.apart (leb-true (length names) place_count k.few) e);
           })
-      by false e = rw (read-malformed e) (record { malformed = λ f. e; stands = λ f. let z : ◌≡◌ {A = ℕ} 0 1 = cc in absurd (omega arith) })
+      by false e = rw (read-malformed e) (record { malformed = λ f. e; stands = λ places f. absurd (cc) })
 
   -- an answer that has the definition's positions has its content
-  pub says_of : (r : Form) → r ≡ read_of (pieces text) s → (r ≡ read_of (pieces text) s) × Says text s r
-  says_of r e = (e, rw e says)
+  pub says_of : (r : Option (List Place)) → r ≡ read_of (pieces text) s → Says text s r
+  says_of r e = rw e says

@@ -17,8 +17,7 @@ use Rattle.octets.proofs.Lists.{part-rest}
 use Rattle.octets.proofs.Pieces.{index-le, remaining, remaining-step}
 use Rattle.form.specs.declared.Span.{Span}
 use Rattle.form.specs.declared.Cursor.{Cursor}
-use Rattle.form.specs.declared.Step.{Step}
-use Rattle.form.specs.declared.Step.TheVariants.{Piece, End}
+use Rattle.std.specs.Prelude.{Option, Some, None}
 use Rattle.form.specs.Places.{step_of}
 
 -- the piece is the first that remains, and the cursor stands past it and its separator
@@ -39,28 +38,28 @@ module _ (s : List ℕ) (at : ℕ) where
     pub found_within : at + n ≤ length s
     found_within = omega (arith, found, simp length-drop at (index-le 38 (drop at s)))
 
-    pub step-piece : step_of s at ≡ Piece (record { start = at; end = at + n }) (record { at = at + n + 1 })
+    pub step-piece : step_of s at ≡ Some (record { start = at; end = at + n }, record { at = at + n + 1 })
     unfolding step_of
     step-piece = rw (le-leb at (length s) h, found)
 
-  pub step_end : length s < at → step_of s at ≡ End
+  pub step_end : length s < at → step_of s at ≡ None
   unfolding step_of
   step_end h = rw (lt-leb at (length s) h)
 
   -- ---- what a step tells
 
-  abbrev pub Tells : Step → Type 0
-  Tells (Piece p m) = Told s at p m
-  Tells End = length s < at
+  abbrev pub Tells : Option (Span × Cursor) → Type 0
+  Tells (Some (p, m)) = Told s at p m
+  Tells None = length s < at
 
-  pub step-tells : (r : Step) → r ≡ step_of s at → Tells r
+  pub step-tells : (r : Option (Span × Cursor)) → r ≡ step_of s at → Tells r
   unfolding step_of
   step-tells r e = rw e (by (leb at (length s)) refl)
     where
       n : ℕ
       n = index_of 38 (drop at s)
 
-      by : (b : Bool) → leb at (length s) ≡ b → Tells (cond b (Piece (record { start = at; end = at + n }) (record { at = at + n + 1 })) End)
+      by : (b : Bool) → leb at (length s) ≡ b → Tells (cond b (Some (record { start = at; end = at + n }, record { at = at + n + 1 })) None)
       by true t =
           let h = leb-true at (length s) t in
           let l = simp length-drop at (index-le 38 (drop at s)) in

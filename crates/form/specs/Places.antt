@@ -4,7 +4,7 @@
 --
 -- The code hands the reader the names as one text with `&` between them, so that one reader serves every list of names:
 -- `b"response_type&client_id&redirect_uri&scope&state"` for the authorization endpoint.
-use Rattle.std.specs.Prelude.{ℕ, suc, ◌+◌, ◌-◌, ◌<◌, ◌≤◌, ◌≡◌, List, [], ◌∷◌, Bool, true, false, cond, not, ◌&&◌, leb, ltb, get_or, length, drop, set, replicate}
+use Rattle.std.specs.Prelude.{ℕ, ◌+◌, ◌-◌, ◌<◌, ◌≤◌, ◌≡◌, List, [], ◌∷◌, Bool, true, false, cond, not, ◌&&◌, Option, Some, None, leb, ltb, get_or, length, drop, set, replicate, position}
 use Rattle.octets.specs.Lists.{part, every, same, index_of}
 use Rattle.octets.specs.Search.{any}
 use Rattle.form_coding.specs.Coding.{decode}
@@ -12,10 +12,8 @@ use Rattle.form.specs.Content.{pieces, is_well_formed_form, piece_name, Value, m
 use Rattle.form.specs.declared.Count.{Count}
 use Rattle.form.specs.declared.Count.TheVariants.{Missing, Once, Repeated}
 use Rattle.form.specs.declared.Place.{Place}
-use Rattle.form.specs.declared.Step.{Step}
-use Rattle.form.specs.declared.Step.TheVariants.{Piece, End}
-use Rattle.form.specs.declared.Outcome.TheVariants.{WellFormed, Malformed}
-use Rattle.form.specs.declared.Form.{Form}
+use Rattle.form.specs.declared.Span.{Span}
+use Rattle.form.specs.declared.Cursor.{Cursor}
 
 -- how many places there are: as many as the longest list of names needs
 abbrev pub place_count : ℕ
@@ -28,10 +26,9 @@ unseen = record { count = Missing; start = 0; end = 0 }
 unfoldable pub all_unseen : List Place
 all_unseen = replicate place_count unseen
 
--- where a name stands in a list of names; a name that is not in the list ranks past every place
-unfoldable pub rank : List ℕ → List (List ℕ) → ℕ
-rank n [] = place_count
-rank n (k ∷ ks) = cond (same n k) 0 (suc (rank n ks))
+-- where a name stands in a list of names, if it is one of them
+abbrev pub rank : List ℕ → List (List ℕ) → Option ℕ
+rank n names = position (same n) names
 
 -- one more of a name
 abbrev pub one_more : Count → Count
@@ -43,12 +40,16 @@ one_more Repeated = Repeated
 unfoldable pub seen_again : Place → ℕ → ℕ → Place
 seen_again p a e = record { count = one_more p.count; start = a; end = e }
 
--- a piece p that begins at `at` is entered into a copy of the places: not if its value is empty or its name unknown
+-- a value that stands from a to e is entered into a copy of the places, where its name has one of them
+unfoldable pub enter_at : Option ℕ → List Place → ℕ → ℕ → List Place
+enter_at None ps a e = ps
+enter_at (Some k) ps a e = cond (ltb k place_count) (set ps k (seen_again (get_or ps k unseen) a e)) ps
+
+-- a piece p that begins at `at` is entered: not if its value is empty or its name unknown
 unfoldable pub enter : List (List ℕ) → List Place → ℕ → List ℕ → List Place
 enter names ps at p =
     let n = index_of 61 p in
-    let k = rank (piece_name p) names in
-    cond (ltb (n + 1) (length p) && ltb k place_count) (set ps k (seen_again (get_or ps k unseen) (at + n + 1) (at + length p))) ps
+    cond (ltb (n + 1) (length p)) (enter_at (rank (piece_name p) names) ps (at + n + 1) (at + length p)) ps
 
 -- pieces that begin at `at`, one byte between each and the next
 unfoldable pub enter_all : List (List ℕ) → List Place → ℕ → List (List ℕ) → List Place
@@ -59,16 +60,15 @@ enter_all names ps at (p ∷ rest) = enter_all names (enter names ps at p) (at +
 unfoldable pub places_of : List (List ℕ) → List ℕ → List Place
 places_of names s = enter_all names all_unseen 0 (pieces s)
 
--- what the reader answers for a list of names and a form
-unfoldable pub read_of : List (List ℕ) → List ℕ → Form
-read_of names s =
-    cond (is_well_formed_form s) (record { outcome = WellFormed; places = places_of names s }) (record { outcome = Malformed; places = all_unseen })
+-- what the reader answers for a list of names and a form: nothing for a malformed one
+unfoldable pub read_of : List (List ℕ) → List ℕ → Option (List Place)
+read_of names s = cond (is_well_formed_form s) (Some (places_of names s)) None
 
 -- the piece at a cursor, and the cursor past it
-unfoldable pub step_of : List ℕ → ℕ → Step
+unfoldable pub step_of : List ℕ → ℕ → Option (Span × Cursor)
 step_of s at =
     let n = index_of 38 (drop at s) in
-    cond (leb at (length s)) (Piece (record { start = at; end = at + n }) (record { at = at + n + 1 })) End
+    cond (leb at (length s)) (Some (record { start = at; end = at + n }, record { at = at + n + 1 })) None
 
 -- ---- what the answer means
 
@@ -112,6 +112,6 @@ pub record Known (text : List ℕ) (names : List (List ℕ)) : Type 0 where
   pub few : leb (length names) place_count ≡ true
 
 -- what the answer r to the form s and a text of names says
-pub record Says (text s : List ℕ) (r : Form) : Type 0 where
-  pub malformed : r.outcome ≡ Malformed → is_well_formed_form s ≡ false
-  pub stands : r.outcome ≡ WellFormed → (names : List (List ℕ)) → Known text names → Stands names s r.places
+pub record Says (text s : List ℕ) (r : Option (List Place)) : Type 0 where
+  pub malformed : r ≡ None → is_well_formed_form s ≡ false
+  pub stands : (places : List Place) → r ≡ Some places → (names : List (List ℕ)) → Known text names → Stands names s places

@@ -18,7 +18,7 @@ pub use values::{any_repeated, is_missing, is_once, is_repeated, value_into};
 pub const PLACES: usize = 8;
 
 // How often a name was seen with a value that is not empty.
-#[derive(Clone, Copy)]
+#[derive(Clone, Copy, PartialEq, Eq)]
 pub enum Count {
     Missing,
     Once,
@@ -33,6 +33,13 @@ pub struct Place {
     pub end: usize,
 }
 
+// The place of a name that was not seen.
+const UNSEEN: Place = Place {
+    count: Count::Missing,
+    start: 0,
+    end: 0,
+};
+
 // A part of the form, from its start up to its end.
 #[derive(Clone, Copy)]
 struct Span {
@@ -46,25 +53,6 @@ struct Cursor {
     at: usize,
 }
 
-#[derive(Clone, Copy)]
-enum Step {
-    Piece(Span, Cursor),
-    End,
-}
-
-#[derive(Clone, Copy)]
-pub enum Outcome {
-    WellFormed,
-    Malformed,
-}
-
-// What a form says of the known names, in their order. Of a malformed form no name counts as seen.
-#[derive(Clone, Copy)]
-pub struct Form {
-    pub outcome: Outcome,
-    pub places: [Place; PLACES],
-}
-
 impl Cursor {
     // At the start of a form.
     fn new() -> Self
@@ -75,15 +63,13 @@ impl Cursor {
 
     // The piece at the cursor, and the cursor moved past it and its `&`. A form ends with a piece, so the end comes
     // one past the last byte.
-    fn next(self, s: &[u8]) -> Step
+    fn next(self, s: &[u8]) -> Option<(Span, Cursor)>
         ensures { result ≡ step_of s.now self.at }
     {
-        let at = self.at;
-        if at <= s.len() {
-            let end = at + octets::index_of(&s[at..], b'&');
-            return Step::Piece(Span { start: at, end }, Cursor { at: end + 1 });
-        }
-        Step::End
+        let start = self.at;
+        let rest = s.get(start..)?;
+        let end = start + octets::index_of(rest, b'&');
+        Some((Span { start, end }, Cursor { at: end + 1 }))
     }
 }
 
@@ -93,98 +79,69 @@ fn one_more(c: Count) -> Count
 {
     match c {
         Count::Missing => Count::Once,
-        Count::Once => Count::Repeated,
-        Count::Repeated => Count::Repeated,
+        Count::Once | Count::Repeated => Count::Repeated,
     }
 }
 
 // A place after one more value of its name, which stands from start up to end.
+#[tactic(auto, unfolding(crate::specs::Places::seen_again))]
 fn seen_again(p: Place, start: usize, end: usize) -> Place
     ensures { result ≡ seen_again p start end }
 {
-    let c = p.count;
-    let count = one_more(c);
-    Place { count, start, end }
-}
-
-// Where a name, still coded, stands among the known names, which have `&` between them. Past every place where it is
-// not among them.
-fn known(names: &[u8], name: &[u8]) -> usize
-    ensures { result ≡ rank (decode name.now) (pieces names.now) }
-{
-    let mut c = Cursor::new();
-    let mut k = 0;
-    loop {
-        match c.next(names) {
-            Step::End => return k + PLACES,
-            Step::Piece(p, moved) => {
-                let start = p.start;
-                let end = p.end;
-                if form_coding::value_equals(name, &names[start..end]) {
-                    return k;
-                }
-                c = moved;
-                k += 1;
-            }
-        }
+    Place {
+        count: one_more(p.count),
+        start,
+        end,
     }
 }
 
-// The places after the piece of s from start up to end: a copy with one entry changed. A piece with an empty value or an
-// unknown name changes none.
-fn enter_piece(
-    places: [Place; PLACES],
-    names: &[u8],
-    s: &[u8],
-    start: usize,
-    end: usize,
-) -> [Place; PLACES]
-    requires { (start ≤ end) × (end ≤ length s.now) }
-    ensures { result ≡ enter (pieces names.now) places start (part s.now start (end - start)) }
+// Where a name, still coded, stands among the known names, which have `&` between them, if it is one of them.
+fn known(names: &[u8], name: &[u8]) -> Option<usize>
+    ensures { result ≡ rank (decode name.now) (pieces names.now) }
 {
-    let piece = &s[start..end];
+    names
+        .split(|b| *b == b'&')
+        .position(|known| form_coding::value_equals(name, known))
+}
+
+// The places after the piece p of s: a copy with one entry changed. A piece with an empty value or an unknown name
+// changes none.
+fn enter_piece(places: [Place; PLACES], names: &[u8], s: &[u8], p: Span) -> [Place; PLACES]
+    requires { (p.start ≤ p.end) × (p.end ≤ length s.now) }
+    ensures { result ≡ enter (pieces names.now) places p.start (part s.now p.start (p.end - p.start)) }
+{
+    let piece = &s[p.start..p.end];
     let n = octets::index_of(piece, b'=');
     if piece.len() <= n + 1 {
         return places;
     }
-    let k = known(names, &piece[..n]);
+    let Some(k) = known(names, &piece[..n]) else {
+        return places;
+    };
     if PLACES <= k {
         return places;
     }
     let mut next = places;
-    let old = next[k];
-    next[k] = seen_again(old, start + n + 1, end);
+    next[k] = seen_again(next[k], p.start + n + 1, p.end);
     next
 }
 
-// Reads the form s: where the values of the known names stand, which are themselves a text with `&` between them.
-pub fn read(s: &[u8], names: &[u8]) -> Form
+// Reads the form s: where the values of the known names stand, which are themselves a text with `&` between them, in
+// their order; nothing where s is malformed.
+pub fn read(s: &[u8], names: &[u8]) -> Option<[Place; PLACES]>
     ensures positions { result ≡ read_of (pieces names.now) s.now }
     ensures content { Says names.now s.now result }
 {
-    let mut places = [Place {
-        count: Count::Missing,
-        start: 0,
-        end: 0,
-    }; PLACES];
     if !form_coding::well_formed(s) {
-        return Form {
-            outcome: Outcome::Malformed,
-            places,
-        };
+        return None;
     }
+    let mut places = [UNSEEN; PLACES];
     let mut c = Cursor::new();
-    loop {
-        match c.next(s) {
-            Step::End => return Form {
-                outcome: Outcome::WellFormed,
-                places,
-            },
-            Step::Piece(p, moved) => {
-                let next = enter_piece(places, names, s, p.start, p.end);
-                places = next;
-                c = moved;
-            }
-        }
+    while let Some((p, moved)) = c.next(s) {
+        // In two steps: the prover does not follow a call whose array is laid right into a variable of the loop.
+        let next = enter_piece(places, names, s, p);
+        places = next;
+        c = moved;
     }
+    Some(places)
 }

@@ -1,6 +1,6 @@
 -- Laws of the definitions of specs/Coding.antt, as the functions of this crate step through a text.
 --
--- In order: an escape, a sound byte and a symbol at an index of a text, by cases; the width of a symbol, and of a byte
+-- In order: an escape, a sound byte and a symbol at the front of a text, by cases; the width of a symbol, and of a byte
 -- that is written; one symbol or one byte further, and the end, for `decode`, `well_formed` and `encode`; the scans that
 -- accumulate an answer, one step further and at the end; a byte that is written, by cases.
 --
@@ -9,85 +9,98 @@
 use Prim.Native.Nat.{ℕ, zero, suc, ◌+◌, ◌*◌, ◌/◌, ◌%◌, ◌<◌, ◌≤◌}
 use mathlib.Core.Path.{◌≡◌, refl, sym, ◌∙◌, ap}
 use mathlib.Core.List.{List, [], ◌∷◌, ◌++◌}
-use mathlib.Core.Bool.{Bool, true, false, cond, not, ◌&&◌, ◌||◌, and_assoc, and-true, and-false}
-use native.Mathlib.Nat.{not-suc-le-zero, add-zero}
+use mathlib.Core.Bool.{Bool, true, false, ◌&&◌, and_assoc, and-true, false≢true}
+use native.Mathlib.Nat.{not-suc-le-zero}
 use native.Mathlib.Numerals.{add-one}
 use native.Mathlib.Omega.{arith}
-use borrow.Author.Tests.{eq-eqb, ne_eqb, ltb-true, leb-true, leb-false}
-use lib.Dec.{leb, ltb, eqb}
-use lib.ListN.{get_or, length, drop, length-drop, drop_of_length-le}
-use lib.Seq.{drop-cons, get_or-drop}
+use borrow.Author.Tests.{eq-eqb, ne_eqb, leb-true, leb-false}
+use Rattle.std.specs.Prelude.{Option, Some, None, option_map, option_and_then}
+use Rattle.std.specs.Option.{is_some}
+use lib.Dec.{leb, eqb}
+use lib.ListN.{get_or, length, drop, drop_of_length-le}
+use lib.Seq.{drop-cons}
 use Rattle.octets.specs.Lists.{same}
 use Rattle.octets.proofs.Booleans.{by-test, cond_of, and_left, and_right}
 use Rattle.encoding.specs.Hex.{hex_value, hex_digit}
 use Rattle.form_coding.specs.declared.Symbol.{Symbol}
-use Rattle.form_coding.specs.Coding.{is_escape, plain, first_byte, extra, decode_after, decode, symbol_of, sound, well_formed, is_kept, encode_byte, encode}
+use Rattle.form_coding.specs.Coding.{hex_pair, escaped, is_escape, plain, first_byte, extra, decode_after, decode, symbol_of, sound, well_formed, is_kept, encode_byte, encode}
 
--- ---- an escape at an index, by cases
+-- ---- an escape, by cases
 
-module _ (v : List ℕ) (i : ℕ) where
-  pub escape-at : is_escape (drop i v) ≡ (eqb (get_or v i 0) 37 && (ltb (hex_value true (get_or v (i + 1) 0)) 16 && ltb (hex_value true (get_or v (i + 2) 0)) 16))
-  unfolding is_escape
-  escape-at = simp (get_or-drop, add-zero)
+-- two bytes have a byte where both are digits
+pub pair-is : (h l : ℕ) → is_some (hex_pair h l) ≡ (is_some (hex_value true h) && is_some (hex_value true l))
+pair-is h l = both (hex_value true h) (hex_value true l)
+  where
+    both : (x y : Option ℕ) → is_some (option_and_then (λ p. option_map (λ q. p * 16 + q) y) x) ≡ (is_some x && is_some y)
+    both None y = refl
+    both (Some x) None = refl
+    both (Some x) (Some y) = refl
 
+module _ (l : List ℕ) where
   -- what begins no escape, and what does behind a %
-  pub escape-other : (get_or v i 0 ≡ 37 → ⊥) → false ≡ is_escape (drop i v)
-  escape-other h = rw (escape-at, ne_eqb (get_or v i 0) 37 h)
+  pub escape-other : (get_or l 0 0 ≡ 37 → ⊥) → escaped l ≡ None
+  unfolding escaped
+  escape-other h = rw (ne_eqb (get_or l 0 0) 37 h)
 
-  pub escape-percent : get_or v i 0 ≡ 37
-      → (ltb (hex_value true (get_or v (i + 1) 0)) 16 && ltb (hex_value true (get_or v (i + 2) 0)) 16) ≡ is_escape (drop i v)
-  escape-percent h = rw (escape-at, eq-eqb (get_or v i 0) 37 h)
+  pub escape-percent : get_or l 0 0 ≡ 37 → escaped l ≡ hex_pair (get_or l 1 0) (get_or l 2 0)
+  unfolding escaped
+  escape-percent h = rw (eq-eqb (get_or l 0 0) 37 h)
 
   -- an escape has two digits
-  pub escape-digits : is_escape (drop i v) ≡ true → (hex_value true (get_or v (i + 1) 0) < 16) × (hex_value true (get_or v (i + 2) 0) < 16)
+  pub escape-digits : is_escape l ≡ true → (is_some (hex_value true (get_or l 1 0)) ≡ true) × (is_some (hex_value true (get_or l 2 0)) ≡ true)
+  unfolding escaped
   escape-digits e =
-      let h : Bool = ltb (hex_value true (get_or v (i + 1) 0)) 16 in
-      let l : Bool = ltb (hex_value true (get_or v (i + 2) 0)) 16 in
-      let both = and_right (eqb (get_or v i 0) 37) (h && l) (sym escape-at ∙ e) in
-      (ltb-true _ _ (and_left h l both), ltb-true _ _ (and_right h l both))
+      by-test (eqb (get_or l 0 0) 37)
+      (λ p.
+      let both = sym (pair-is (get_or l 1 0) (get_or l 2 0)) ∙ rw p at e in (
+        and_left (is_some (hex_value true (get_or l 1 0))) (is_some (hex_value true (get_or l 2 0))) both,
+        and_right (is_some (hex_value true (get_or l 1 0))) (is_some (hex_value true (get_or l 2 0))) both,
+      ))
+      (λ p. absurd (false≢true (rw p at e)))
 
--- ---- the byte at an index is sound, by cases
+-- past the end stands 0, which is no digit
+pub escape-short : (l : List ℕ) → length l < 3 → escaped l ≡ None
+unfolding escaped hex_value
+escape-short [] h = refl
+escape-short (a ∷ []) h = by-test (eqb a 37) (λ e. rw e) (λ e. rw e)
+escape-short (a ∷ b ∷ []) h = by-test (eqb a 37) (λ e. rw e (no_second (hex_value true b))) (λ e. rw e)
+  where
+    no_second : (x : Option ℕ) → option_and_then (λ p. option_map (λ q. p * 16 + q) None) x ≡ None
+    no_second None = refl
+    no_second (Some x) = refl
+escape-short (a ∷ b ∷ c ∷ t) h = absurd (omega arith)
 
-module _ (v : List ℕ) (i : ℕ) where
-  sound-at : sound (drop i v) ≡ (not (eqb (get_or v i 0) 37) || is_escape (drop i v))
+-- ---- the first byte is sound, and the first symbol, by cases
+
+module _ (l : List ℕ) where
+  pub sound-other : (get_or l 0 0 ≡ 37 → ⊥) → true ≡ sound l
   unfolding sound
-  sound-at = simp (get_or-drop, add-zero)
+  sound-other h = rw (ne_eqb (get_or l 0 0) 37 h)
 
-  pub sound-other : (get_or v i 0 ≡ 37 → ⊥) → true ≡ sound (drop i v)
-  sound-other h = rw (sound-at, ne_eqb (get_or v i 0) 37 h)
+  pub sound-percent : get_or l 0 0 ≡ 37 → is_escape l ≡ sound l
+  unfolding sound
+  sound-percent h = rw (eq-eqb (get_or l 0 0) 37 h)
 
-  pub sound-percent : get_or v i 0 ≡ 37 → is_escape (drop i v) ≡ sound (drop i v)
-  sound-percent h = rw (sound-at, eq-eqb (get_or v i 0) 37 h)
+  pub symbol-escape : (b : ℕ) → escaped l ≡ Some b → symbol_of l ≡ record { byte = b; width = 3 }
+  unfolding symbol_of first_byte extra
+  symbol-escape b e = rw e
 
--- ---- the symbol at an index, by cases
+  pub symbol-space : get_or l 0 0 ≡ 43 → symbol_of l ≡ record { byte = 32; width = 1 }
+  unfolding symbol_of first_byte extra plain
+  symbol-space h = rw (escape-other l (λ e. absurd (omega arith)), eq-eqb (get_or l 0 0) 43 h)
 
-module _ (v : List ℕ) (i : ℕ) where
-  first-at : first_byte (drop i v)
-      ≡ cond (is_escape (drop i v)) (hex_value true (get_or v (i + 1) 0) * 16 + hex_value true (get_or v (i + 2) 0)) (plain (get_or v i 0))
-  unfolding first_byte
-  first-at = simp (get_or-drop, add-zero)
-
-  pub symbol-escape : is_escape (drop i v) ≡ true
-      → symbol_of (drop i v) ≡ record { byte = hex_value true (get_or v (i + 1) 0) * 16 + hex_value true (get_or v (i + 2) 0); width = 3 }
-  unfolding symbol_of extra
-  symbol-escape e = rw (first-at, e)
-
-  pub symbol-space : get_or v i 0 ≡ 43 → symbol_of (drop i v) ≡ record { byte = 32; width = 1 }
-  unfolding symbol_of extra plain
-  symbol-space h = rw (first-at, sym (escape-other v i (λ e. absurd (omega arith))), eq-eqb (get_or v i 0) 43 h)
-
-  pub symbol-itself : is_escape (drop i v) ≡ false → (get_or v i 0 ≡ 43 → ⊥) → symbol_of (drop i v) ≡ record { byte = get_or v i 0; width = 1 }
-  unfolding symbol_of extra plain
-  symbol-itself e h = rw (first-at, e, ne_eqb (get_or v i 0) 43 h)
+  pub symbol-itself : escaped l ≡ None → (get_or l 0 0 ≡ 43 → ⊥) → symbol_of l ≡ record { byte = get_or l 0 0; width = 1 }
+  unfolding symbol_of first_byte extra plain
+  symbol-itself e h = rw (e, ne_eqb (get_or l 0 0) 43 h)
 
 -- ---- widths
 
--- a symbol takes no more bytes than there are: past the end stands 0, which is no digit
+-- a symbol takes no more bytes than there are
 pub extra-le : (l : List ℕ) → 0 < length l → extra l + 1 ≤ length l
-unfolding extra is_escape hex_value
+unfolding extra
 extra-le [] h = absurd (not-suc-le-zero h)
-extra-le (a ∷ []) h = rw (and-false (eqb a 37)) (omega arith)
-extra-le (a ∷ b ∷ []) h = rw (and-false, and-false (eqb a 37)) (omega arith)
+extra-le (a ∷ []) h = rw (escape-short (a ∷ []) (omega arith)) (omega arith)
+extra-le (a ∷ b ∷ []) h = rw (escape-short (a ∷ b ∷ []) (omega arith)) (omega arith)
 extra-le (a ∷ b ∷ d ∷ t) h = cond_of (λ k. k + 1 ≤ suc (suc (suc (length t)))) (is_escape (a ∷ b ∷ d ∷ t)) 2 0 (λ e. omega arith) (λ e. omega arith)
 
 -- a byte is written in one to three
@@ -112,19 +125,15 @@ unfolding decode_after
 decode-some [] h = absurd (not-suc-le-zero h)
 decode-some (c ∷ t) h = rw add-one (ap (λ (r : List ℕ). first_byte (c ∷ t) ∷ r) (decode-after (extra (c ∷ t)) t))
 
+-- the symbol that begins the list takes some bytes, and no more than there are
+pub width_fits : (l : List ℕ) → 0 < length l → {s : Symbol} → s ≡ symbol_of l → (0 < s.width) × (s.width ≤ length l)
+unfolding symbol_of
+width_fits l h {s} e =
+    let w : s.width ≡ extra l + 1 = ap (λ (s : Symbol). s.width) e in
+    let f = extra-le l h in
+    (omega arith, omega arith)
+
 module _ (v : List ℕ) (i : ℕ) (h : i < length v) where
-  -- the symbol s that stands at the index
-  module _ {s : Symbol} (e : s ≡ symbol_of (drop i v)) where
-    some : 0 < length (drop i v)
-    some = simp length-drop (omega arith)
-
-    width_of : s.width ≡ extra (drop i v) + 1
-    unfolding symbol_of
-    width_of = ap (λ (s : Symbol). s.width) e
-
-    pub width_fits : (0 < s.width) × (i + s.width ≤ length v)
-    width_fits = let w = width_of in let f = simp length-drop at (extra-le (drop i v) some) in (omega arith, omega arith)
-
   pub well-step : well_formed (drop i v) ≡ (sound (drop i v) && well_formed (drop (i + 1) v))
   unfolding well_formed
   well-step = rw (add-one, drop-cons v i 0)
@@ -135,11 +144,12 @@ module _ (v : List ℕ) (i : ℕ) (h : i < length v) where
 
 -- ---- past the end nothing is left
 
-module _ (v : List ℕ) (i : ℕ) (h : length v ≤ i) where
-  pub decode-end : decode (drop i v) ≡ []
-  unfolding decode_after
-  decode-end = rw (drop_of_length-le v h)
+pub decode-end : (l : List ℕ) → length l ≡ 0 → decode l ≡ []
+unfolding decode_after
+decode-end [] h = refl
+decode-end (c ∷ t) h = absurd (omega arith)
 
+module _ (v : List ℕ) (i : ℕ) (h : length v ≤ i) where
   pub well-end : well_formed (drop i v) ≡ true
   unfolding well_formed
   well-end = rw (drop_of_length-le v h)
@@ -163,8 +173,8 @@ same-nil e k =
     by-test (leb (length e) k) (λ f. let h = leb-true (length e) k f in rw (f, drop_of_length-le e h))
     (λ f. let h = leb-false (length e) k f in rw (f, drop-cons e k 0 h))
 
-pub compare-done : (ok : Bool) (v : List ℕ) (i : ℕ) (e : List ℕ) (k : ℕ) → length v ≤ i → (ok && leb (length e) k) ≡ (ok && same (decode (drop i v)) (drop k e))
-compare-done ok v i e k h = rw (decode-end v i h, same-nil e k)
+pub compare-done : (ok : Bool) (l e : List ℕ) (k : ℕ) → length l ≡ 0 → (ok && leb (length e) k) ≡ (ok && same (decode l) (drop k e))
+compare-done ok l e k h = rw (decode-end l h, same-nil e k)
 
 -- ---- a byte that is written, by cases
 

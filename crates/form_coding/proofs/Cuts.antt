@@ -13,7 +13,7 @@ use mathlib.Core.Bool.{Bool, true, false, not, ◌&&◌, true≢false}
 use native.Mathlib.Nat.{not-suc-le-zero, add-zero}
 use native.Mathlib.Omega.{arith}
 use borrow.Author.Tests.{eqb-true, not-true}
-use lib.Dec.{ltb, eqb}
+use lib.Dec.{eqb}
 use lib.ListN.{get_or, length, take, drop, length-drop, take-append-drop, drop_of_length-le}
 use lib.Seq.{get_or-drop, drop-append_seam}
 use Rattle.octets.specs.Lists.{every}
@@ -21,8 +21,10 @@ use Rattle.octets.specs.Search.{count, index_where}
 use Rattle.octets.proofs.Booleans.{by-test, and_left, and_right}
 use Rattle.octets.proofs.Searches.{index_at}
 use Rattle.encoding.specs.Hex.{hex_value}
-use Rattle.form_coding.specs.Coding.{is_escape, extra, sound, well_formed}
+use Rattle.form_coding.specs.Coding.{escaped, is_escape, extra, sound, well_formed}
 use Rattle.form_coding.specs.Turns.{is_mark, is_plain, stretch, stretches_after, turns}
+use Rattle.std.specs.Option.{is_some}
+use Rattle.form_coding.proofs.Coding.{pair-is, escape-digits, escape-short}
 use Rattle.form_coding.proofs.Turns.{turns-stretch, turns-mark}
 
 -- ---- a stretch
@@ -54,7 +56,7 @@ written plus = 43 ∷ []
 written (escape h l) = 37 ∷ h ∷ l ∷ []
 
 abbrev is_digit : ℕ → Bool
-is_digit d = ltb (hex_value true d) 16
+is_digit d = is_some (hex_value true d)
 
 -- its bytes are such as it may have
 abbrev is_sound : Piece → Bool
@@ -102,12 +104,12 @@ stretch-whole (c ∷ p) rest h f =
     rw (not-true (is_mark c) (and_left (is_plain c) (every is_plain p) h)) (ap suc (stretch-whole p rest (and_right (is_plain c) (every is_plain p) h) f))
 
 turns-piece : (p : Piece) (rest : List ℕ) → is_sound p ≡ true → (is_stretch p ≡ true → BeginsMarked rest) → turns (written p ++ rest) ≡ suc (turns rest)
-unfolding every extra is_escape
+unfolding every extra escaped
 turns-piece (stretch_of c t) rest h f =
     let plain = not-true (is_mark c) (and_left (is_plain c) (every is_plain t) h) in
     turns-stretch c (t ++ rest) plain ∙ rw (stretch-whole (c ∷ t) rest h (f refl), drop-append_seam t rest)
 turns-piece plus rest h f = turns-mark 43 rest refl
-turns-piece (escape d e) rest h f = turns-mark 37 (d ∷ e ∷ rest) refl ∙ rw h
+turns-piece (escape d e) rest h f = turns-mark 37 (d ∷ e ∷ rest) refl ∙ rw (pair-is d e, h)
 
 pub cut-turns : (ps : List Piece) → is_cut ps ≡ true → turns (joined ps) ≡ length ps
 unfolding stretches_after count
@@ -149,10 +151,11 @@ plus-cut : (t : List ℕ) → HasCut t → HasCut (43 ∷ t)
 plus-cut t r = (plus ∷ r.0, r.1, ap (λ (u : List ℕ). 43 ∷ u) r.2)
 
 escape-cut : (t : List ℕ) → is_escape (37 ∷ t) ≡ true → HasCut (drop 2 t) → HasCut (37 ∷ t)
-unfolding is_escape hex_value
-escape-cut [] h r = absurd (true≢false (sym h))
-escape-cut (d ∷ []) h r = absurd (true≢false (sym (and_right (is_digit d) false h)))
-escape-cut (d ∷ e ∷ t) h r = (escape d e ∷ r.0, rw h r.1, ap (λ (u : List ℕ). 37 ∷ d ∷ e ∷ u) r.2)
+escape-cut [] h r = absurd (true≢false (sym h ∙ ap is_some (escape-short (37 ∷ []) (omega arith))))
+escape-cut (d ∷ []) h r = absurd (true≢false (sym h ∙ ap is_some (escape-short (37 ∷ d ∷ []) (omega arith))))
+escape-cut (d ∷ e ∷ t) h r =
+    let digits = escape-digits (37 ∷ d ∷ e ∷ t) h in
+    (escape d e ∷ r.0, rw (digits.0, digits.1) r.1, ap (λ (u : List ℕ). 37 ∷ d ∷ e ∷ u) r.2)
 
 stretch-cut : (c : ℕ) (t : List ℕ) → is_mark c ≡ false → HasCut (drop (stretch t) t) → HasCut (c ∷ t)
 unfolding every

@@ -8,7 +8,7 @@ use mathlib.Core.Bool.{false}
 use Rattle.octets.specs.Text.{bytes}
 use Rattle.octets.specs.Search.{count, index_where}
 use Rattle.encoding.specs.Hex.{hex_value, hex_digit}
-use Rattle.form_coding.specs.Coding.{is_escape, plain, first_byte, extra, decode_after, decode, sound, well_formed, encode_byte, encode}
+use Rattle.form_coding.specs.Coding.{escaped, plain, first_byte, extra, decode_after, decode, sound, well_formed, encode_byte, encode}
 use Rattle.form_coding.specs.Turns.{stretch, ends_stretch, stretches_after, turns}
 
 -- a space, %, &, +, a pound sign and a euro sign in UTF-8
@@ -20,16 +20,16 @@ unfolding encode encode_byte hex_digit
 signs-written = refl
 
 pub signs-read : decode (bytes "+%25%26%2B%C2%A3%E2%82%AC") ≡ signs
-unfolding decode_after first_byte extra is_escape plain hex_value
+unfolding decode_after first_byte extra escaped plain hex_value
 signs-read = refl
 
 pub either-case : (decode (bytes "%7e") ≡ 0x7E ∷ []) × (decode (bytes "%7E") ≡ 0x7E ∷ [])
-unfolding decode_after first_byte extra is_escape plain hex_value
+unfolding decode_after first_byte extra escaped plain hex_value
 either-case = (refl, refl)
 
 -- no digits behind the %, and one digit too few
 pub malformed : (well_formed (bytes "a%zz") ≡ false) × (well_formed (bytes "a=%4") ≡ false)
-unfolding well_formed sound is_escape hex_value
+unfolding well_formed sound escaped hex_value
 malformed = (refl, refl)
 
 -- ---- turns
@@ -46,17 +46,17 @@ pub turns-counted :
     × (turns (bytes "%20a") ≡ 2)
     × (turns (bytes "a%20") ≡ 2)
     × (turns (bytes "https%3A%2F%2Ffarmdash.example%2Fcb") ≡ 7)
-unfolding stretches_after ends_stretch count extra is_escape hex_value
+unfolding stretches_after ends_stretch count extra escaped hex_value
 turns-counted = (refl, refl, refl, refl, refl, refl, refl, refl, refl, refl)
 
 -- digits of an escape belong to no stretch, and digits behind it do
 pub turns-digits : (turns (bytes "%4142") ≡ 2) × (turns (bytes "41%42") ≡ 2)
-unfolding stretches_after ends_stretch count extra is_escape hex_value
+unfolding stretches_after ends_stretch count extra escaped hex_value
 turns-digits = (refl, refl)
 
 -- the turn of a % that begins no escape counts, and so do those behind it
 pub turns-malformed : (turns (bytes "%") ≡ 1) × (turns (bytes "a%zz") ≡ 3) × (turns (bytes "%%41") ≡ 2) × (turns (bytes "%4+") ≡ 3)
-unfolding stretches_after ends_stretch count extra is_escape hex_value
+unfolding stretches_after ends_stretch count extra escaped hex_value
 turns-malformed = (refl, refl, refl, refl)
 
 -- a stretch runs to the next %, to the next + or to the end, and is none where one of them comes first

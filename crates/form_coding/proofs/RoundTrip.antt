@@ -10,16 +10,17 @@ use mathlib.Core.Path.{◌≡◌, refl, sym, ◌∙◌, ap}
 use mathlib.Core.List.{List, [], ◌∷◌, ◌++◌}
 use mathlib.Core.Bool.{Bool, true, false, not, ◌&&◌, false≢true, and_assoc}
 use native.Mathlib.Omega.{arith}
-use borrow.Author.Tests.{lt-ltb, ne_eqb, eqb-true, eqb-false, not-true}
+use borrow.Author.Tests.{ne_eqb, eqb-true, eqb-false, not-true}
 use lib.Dec.{ltb, eqb, T}
 use lib.ListN.{length, length-append, replicate}
 use Rattle.octets.specs.Lists.{Bytes, every}
 use Rattle.octets.proofs.Booleans.{by-test}
 use Rattle.octets.proofs.Lists.{every_append, tail-bytes}
 use Rattle.octets.proofs.Table.{every_from, below}
+use Rattle.std.specs.Prelude.{Some, None}
 use Rattle.encoding.specs.Hex.{hex_value, hex_digit}
 use Rattle.encoding.proofs.Hex.{upper-round}
-use Rattle.form_coding.specs.Coding.{is_escape, plain, first_byte, extra, decode_after, decode, sound, well_formed, is_kept, encode_byte, encode, lacks}
+use Rattle.form_coding.specs.Coding.{escaped, is_escape, plain, first_byte, extra, decode_after, decode, sound, well_formed, is_kept, encode_byte, encode, lacks}
 use Rattle.form_coding.proofs.Coding.{byte-length, byte-kept, byte-space, byte-escape}
 
 -- ---- one byte that is written
@@ -43,20 +44,20 @@ module _ (b : ℕ) (h : b < 256) (rest : List ℕ) where
   abbrev escape : List ℕ
   escape = 37 ∷ hex_digit 65 (b / 16) ∷ hex_digit 65 (b % 16) ∷ rest
 
-  is-escape : is_escape escape ≡ true
-  unfolding is_escape
-  is-escape = rw (upper-round (b / 16) high, upper-round (b % 16) low, lt-ltb (b / 16) 16 high, lt-ltb (b % 16) 16 low)
+  is-escape : escaped escape ≡ Some b
+  unfolding escaped
+  is-escape = let whole : b / 16 * 16 + b % 16 ≡ b = omega arith in rw (upper-round (b / 16) high, upper-round (b % 16) low, whole)
 
   escape-round : decode escape ≡ b ∷ decode rest
   unfolding decode_after first_byte extra
-  escape-round = let whole : b / 16 * 16 + b % 16 ≡ b = omega arith in rw (is-escape, upper-round (b / 16) high, upper-round (b % 16) low, whole)
+  escape-round = rw is-escape
 
   escape-well : well_formed escape ≡ well_formed rest
   unfolding well_formed sound
   escape-well = rw (is-escape, digit-plain (b / 16) high, digit-plain (b % 16) low)
 
   byte-round : decode (encode_byte b ++ rest) ≡ b ∷ decode rest
-  unfolding decode_after first_byte extra is_escape plain
+  unfolding decode_after first_byte extra escaped plain
   byte-round =
       by-test (is_kept b) (λ e. rw (byte-kept b e, kept-not b 37 refl e, kept-not b 43 refl e))
       (λ e.
@@ -114,7 +115,7 @@ module _ (l : List ℕ) (h : Bytes l) where
 
 -- a byte that can stand in no escape
 pub record Separator (x : ℕ) : Type 0 where
-  pub no_digit : hex_value true x ≡ 16
+  pub no_digit : hex_value true x ≡ None
   pub no-percent : eqb x 37 ≡ false
 
 pub ampersand : Separator 38
@@ -128,7 +129,7 @@ equals = record { no_digit = refl; no-percent = refl }
 module _ (x : ℕ) (s : Separator x) where
   -- the byte before it begins an escape on its own or not at all
   escape-apart : (c : ℕ) (a b : List ℕ) → is_escape (c ∷ a ++ x ∷ b) ≡ is_escape (c ∷ a)
-  unfolding is_escape hex_value
+  unfolding escaped hex_value
   escape-apart c [] b = rw s.no_digit
   escape-apart c (y ∷ []) b = rw s.no_digit
   escape-apart c (y ∷ z ∷ a) b = refl

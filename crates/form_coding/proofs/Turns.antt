@@ -11,13 +11,13 @@ use mathlib.Core.Path.{◌≡◌, refl, sym, ◌∙◌, ap, subst}
 use mathlib.Core.List.{List, [], ◌∷◌, ◌++◌}
 use mathlib.Core.Logic.{◌⊎◌, inl, inr}
 use mathlib.Core.Bool.{Bool, true, false, cond, not, ◌&&◌, false≢true, and_assoc, and-true}
-use native.Mathlib.Nat.{not-suc-le-zero, le_of_suc-le-suc, zero-add, add-zero, add_assoc}
+use native.Mathlib.Nat.{not-suc-le-zero, le_of_suc-le-suc, zero-add, add_assoc}
 use native.Mathlib.Numerals.{add-one}
 use native.Mathlib.Omega.{arith}
 use borrow.Author.Tests.{eqb-true, ne_eqb, ltb-true, ltb-false}
 use lib.Dec.{ltb, eqb}
 use lib.ListN.{get_or, length, set, take, drop, length-drop, length-take, drop_of_length-le}
-use lib.Seq.{drop-drop, drop-cons, get_or-drop, length-take-le, take-nil, take-suc, take-take, take-add}
+use lib.Seq.{drop-drop, drop-cons, length-take-le, take-nil, take-suc, take-take, take-add}
 use Rattle.octets.specs.Lists.{every, same, part}
 use Rattle.octets.specs.Writing.{Appended}
 use Rattle.octets.specs.Search.{bit, count, index_where}
@@ -25,11 +25,14 @@ use Rattle.octets.proofs.Booleans.{by-test, or-none, or_cases}
 use Rattle.octets.proofs.Lists.{same_length, part-rest}
 use Rattle.octets.proofs.Writing.{append-both, store-one}
 use Rattle.octets.proofs.Searches.{index-le}
+use Rattle.std.specs.Option.{is_some, unwrap_or}
+use Rattle.std.specs.Prelude.{Option, position}
+use Rattle.std.specs.List.{position_or_len}
 use Rattle.encoding.specs.Hex.{hex_value}
 use Rattle.form_coding.specs.declared.Symbol.{Symbol}
-use Rattle.form_coding.specs.Coding.{is_escape, plain, first_byte, extra, decode_after, decode, symbol_of}
+use Rattle.form_coding.specs.Coding.{escaped, is_escape, plain, first_byte, extra, decode_after, decode, symbol_of}
 use Rattle.form_coding.specs.Turns.{is_mark, is_plain, stretch, ends_stretch, stretches_after, stretches, turns, turn_width, turn_bytes, stands_at}
-use Rattle.form_coding.proofs.Coding.{escape-digits, extra-le, decode-some, width_fits}
+use Rattle.form_coding.proofs.Coding.{escape-digits, extra-le, decode-some}
 
 -- ---- the place of the first that passes, in a part of the list
 
@@ -69,6 +72,18 @@ module _ (p : ℕ → Bool) where
           → suc m ≤ cond q 0 (suc (index_where p xs))
       by true e f = absurd (false≢true e)
       by false e f = let r = f e in omega arith
+
+  -- as std's search gives it
+  where-position : (l : List ℕ) → index_where p l ≡ position_or_len p l
+  unfolding index_where
+  where-position [] = refl
+  where-position (c ∷ t) = by-test (p c) (λ e. rw e refl) (λ e. rw (e, where-position t) (omega arith))
+
+  pub unwrap-where : (l : List ℕ) (r : Option ℕ) → r ≡ position p l → unwrap_or r (length l) ≡ index_where p l
+  unwrap-where l r e =
+      let at = where-position l in
+      let h = index-le p l in
+      rw (e, ← at) (by-test (ltb (index_where p l) (length l)) (λ t. rw t refl) (λ f. rw f (omega (arith, ltb-false))))
 
 -- ---- a stretch
 
@@ -122,11 +137,11 @@ module _ (c : ℕ) (t : List ℕ) (e : is_mark c ≡ false) where
   no_plus = (or-none (eqb c 37) (eqb c 43) e).1
 
   plain-extra : extra (c ∷ t) ≡ 0
-  unfolding extra is_escape
+  unfolding extra escaped
   plain-extra = rw no-percent
 
   plain-first : first_byte (c ∷ t) ≡ c
-  unfolding first_byte is_escape plain
+  unfolding first_byte escaped plain
   plain-first = rw (no-percent, no_plus)
 
   plain-decode : decode (c ∷ t) ≡ c ∷ decode t
@@ -162,12 +177,12 @@ stretches-after (suc k) (c ∷ t) = stretches-after k t
 stretches-after zero (c ∷ t) = refl
 
 -- a digit is no % and no +
-digit-plain : (d : ℕ) → hex_value true d < 16 → is_mark d ≡ false
+digit-plain : (d : ℕ) → is_some (hex_value true d) ≡ true → is_mark d ≡ false
 unfolding hex_value
 digit-plain d h = by-test (is_mark d) (λ e. absurd (by (or_cases (eqb d 37) (eqb d 43) e))) (λ e. e)
   where
-    no_digit : (x : ℕ) → d ≡ x → hex_value true x ≡ 16 → ⊥
-    no_digit x e f = let g : hex_value true d ≡ 16 = ap (hex_value true) e ∙ f in omega arith
+    no_digit : (x : ℕ) → d ≡ x → is_some (hex_value true x) ≡ false → ⊥
+    no_digit x e f = false≢true (sym f ∙ ap (λ (y : ℕ). is_some (hex_value true y)) (sym e) ∙ h)
 
     by : (eqb d 37 ≡ true) ⊎ (eqb d 43 ≡ true) → ⊥
     by (inl e) = no_digit 37 (eqb-true d 37 e) refl
@@ -176,9 +191,9 @@ digit-plain d h = by-test (is_mark d) (λ e. absurd (by (or_cases (eqb d 37) (eq
 -- an escape has no other % than its first byte, and no +
 marks-after : (c : ℕ) (t : List ℕ) → count is_mark t ≡ count is_mark (drop (extra (c ∷ t)) t)
 unfolding extra count
-marks-after c t = by-test (is_escape (c ∷ t)) (λ e. rw e (digits t (escape-digits (c ∷ t) 0 e))) (λ e. rw e)
+marks-after c t = by-test (is_escape (c ∷ t)) (λ e. rw e (digits t (escape-digits (c ∷ t) e))) (λ e. rw e)
   where
-    digits : (t : List ℕ) → (hex_value true (get_or t 0 0) < 16) × (hex_value true (get_or t 1 0) < 16) → count is_mark t ≡ count is_mark (drop 2 t)
+    digits : (t : List ℕ) → (is_some (hex_value true (get_or t 0 0)) ≡ true) × (is_some (hex_value true (get_or t 1 0)) ≡ true) → count is_mark t ≡ count is_mark (drop 2 t)
     digits [] h = refl
     digits (d ∷ []) h = rw (digit-plain d h.0)
     digits (d ∷ f ∷ t) h = rw (digit-plain d h.0, digit-plain f h.1) (omega arith)
@@ -213,53 +228,20 @@ turn-fits (c ∷ t) h =
     let n = length-take-le (stretch t) t i in
     rw e (omega arith, omega arith, omega arith))
 
--- the turn at an index of the value is not empty, lies within it, and gives no more bytes than it takes
-abbrev pub TurnFits : List ℕ → ℕ → Type 0
-TurnFits v i =
-    (0 < turn_width (drop i v)) × (i + turn_width (drop i v) ≤ length v) × (length (turn_bytes (drop i v)) ≤ turn_width (drop i v))
-
--- it takes this many bytes, which lie within the value, and gives these
-abbrev pub TurnIs : List ℕ → ℕ → ℕ → List ℕ → Type 0
-TurnIs v i n text = (turn_width (drop i v) ≡ n) × (turn_bytes (drop i v) ≡ text) × (i + n ≤ length v)
-
-module _ (v : List ℕ) (i : ℕ) (h : i < length v) where
-  -- what is left of the value
-  abbrev rest : List ℕ
-  rest = drop i v
-
-  some : 0 < length rest
-  some = simp length-drop (omega arith)
-
-  pub turn-within : TurnFits v i
-  turn-within =
-      let f = turn-fits rest some in
-      let w = simp length-drop at f.1 in
-      (f.0, omega arith, f.2)
-
-  pub decode-next : decode rest ≡ turn_bytes rest ++ decode (drop (i + turn_width rest) v)
-  decode-next = decode-turn rest some ∙ rw drop-drop
-
-  pub turns_next : turns rest ≡ suc (turns (drop (i + turn_width rest) v))
-  turns_next = turns-turn rest some ∙ rw drop-drop
-
-  -- where it is a + or a %
-  pub turn-symbol : is_mark (get_or v i 0) ≡ true → {s : Symbol} → s ≡ symbol_of rest → TurnIs v i s.width (s.byte ∷ [])
+-- what it is: where the list begins with a + or a %, and with a stretch
+module _ (l : List ℕ) where
+  pub turn-symbol : is_mark (get_or l 0 0) ≡ true → {s : Symbol} → s ≡ symbol_of l → (turn_width l ≡ s.width) × (turn_bytes l ≡ s.byte ∷ [])
   unfolding turn_width turn_bytes symbol_of
-  turn-symbol m e =
-      let first : is_mark (get_or rest 0 0) ≡ true = simp (get_or-drop, add-zero) m in
-      (rw (first, e), rw (first, e), (width_fits v i h e).1)
+  turn-symbol m e = (rw (m, e), rw (m, e))
 
-  -- where it is a stretch: a function that was handed the rest of the value gave its length
-  pub turn-stretch : is_mark (get_or v i 0) ≡ false → {n : ℕ} → n ≡ stretch (part v i (length v - i)) → TurnIs v i n (part v i n)
+  pub turn-stretch : is_mark (get_or l 0 0) ≡ false → {n : ℕ} → n ≡ stretch l → (turn_width l ≡ n) × (turn_bytes l ≡ take n l)
   unfolding turn_width turn_bytes
-  turn-stretch m e =
-      let first : is_mark (get_or rest 0 0) ≡ false = simp (get_or-drop, add-zero) m in
-      let long = e ∙ ap stretch (part-rest v i) in
-      (rw (first, long), rw (first, long), omega (arith, index-le is_mark rest, length-drop i v))
+  turn-stretch m e = (rw (m, e), rw (m, e))
 
-pub turns-end : (v : List ℕ) (i : ℕ) → length v ≤ i → turns (drop i v) ≡ 0
+pub turns-end : (l : List ℕ) → length l ≡ 0 → turns l ≡ 0
 unfolding stretches_after count
-turns-end v i h = rw (drop_of_length-le v h)
+turns-end [] h = refl
+turns-end (c ∷ t) h = absurd (omega arith)
 
 -- ---- a comparison
 
@@ -291,11 +273,11 @@ same-both (x ∷ xs) ys [] = refl
 same-both (x ∷ xs) ys (y ∷ l) = rw (same-both xs ys l) (sym (and_assoc (eqb x y) (same xs (take (length xs) l)) (same ys (drop (length xs) l))))
 
 -- the answer so far and the answer of the rest, one turn further
-pub compare-more : (ok : Bool) (v : List ℕ) (i : ℕ) (e : List ℕ) (k : ℕ) → i < length v
-    → ((ok && stands_at e k (turn_bytes (drop i v))) && same (decode (drop (i + turn_width (drop i v)) v)) (drop (k + length (turn_bytes (drop i v))) e))
-    ≡ (ok && same (decode (drop i v)) (drop k e))
-compare-more ok v i e k h =
-    let text = turn_bytes (drop i v) in
-    let rest = decode (drop (i + turn_width (drop i v)) v) in
+pub compare-more : (ok : Bool) (l e : List ℕ) (k : ℕ) → 0 < length l
+    → ((ok && stands_at e k (turn_bytes l)) && same (decode (drop (turn_width l) l)) (drop (k + length (turn_bytes l)) e))
+    ≡ (ok && same (decode l) (drop k e))
+compare-more ok l e k h =
+    let text = turn_bytes l in
+    let rest = decode (drop (turn_width l) l) in
     and_assoc ok (stands_at e k text) (same rest (drop (k + length text) e))
-    ∙ ap (λ (b : Bool). ok && b) (sym (rw (decode-next v i h, same-both text rest (drop k e), drop-drop)))
+    ∙ ap (λ (b : Bool). ok && b) (sym (rw (decode-turn l h, same-both text rest (drop k e), drop-drop)))

@@ -4,14 +4,23 @@
 --
 -- Decoding is total, and being well formed is a test of its own: a `%` that begins no escape stands for itself in
 -- `decode`, and makes the form malformed by `well_formed`.
-use Rattle.std.specs.Prelude.{ℕ, zero, suc, ◌+◌, ◌*◌, ◌/◌, ◌%◌, List, [], ◌∷◌, ◌++◌, Bool, true, cond, not, ◌&&◌, ◌||◌, leb, ltb, eqb, get_or}
+use Rattle.std.specs.Prelude.{ℕ, zero, suc, ◌+◌, ◌*◌, ◌/◌, ◌%◌, List, [], ◌∷◌, ◌++◌, Bool, true, cond, not, ◌&&◌, ◌||◌, leb, eqb, get_or, Option, None, option_map, option_and_then, unwrap_or}
+use Rattle.std.specs.Option.{is_some}
 use Rattle.octets.specs.Lists.{every}
 use Rattle.encoding.specs.Hex.{hex_value, hex_digit}
 use Rattle.form_coding.specs.declared.Symbol.{Symbol}
 
--- the list begins with an escape: % and two hex digits of either case
-unfoldable pub is_escape : List ℕ → Bool
-is_escape l = eqb (get_or l 0 0) 37 && (ltb (hex_value true (get_or l 1 0)) 16 && ltb (hex_value true (get_or l 2 0)) 16)
+-- the byte of two hex digits of either case, if both are digits
+abbrev pub hex_pair : ℕ → ℕ → Option ℕ
+hex_pair high low = option_and_then (λ h. option_map (λ l. h * 16 + l) (hex_value true low)) (hex_value true high)
+
+-- the byte of the escape that begins the list, % and two hex digits, if one does
+unfoldable pub escaped : List ℕ → Option ℕ
+escaped l = cond (eqb (get_or l 0 0) 37) (hex_pair (get_or l 1 0) (get_or l 2 0)) None
+
+-- the list begins with an escape
+abbrev pub is_escape : List ℕ → Bool
+is_escape l = is_some (escaped l)
 
 -- a byte outside of escapes: + is a space, any other stands for itself
 unfoldable pub plain : ℕ → ℕ
@@ -19,7 +28,7 @@ plain c = cond (eqb c 43) 32 c
 
 -- the first decoded byte of the list
 unfoldable pub first_byte : List ℕ → ℕ
-first_byte l = cond (is_escape l) (hex_value true (get_or l 1 0) * 16 + hex_value true (get_or l 2 0)) (plain (get_or l 0 0))
+first_byte l = unwrap_or (escaped l) (plain (get_or l 0 0))
 
 -- how many bytes of the list it takes beyond one
 unfoldable pub extra : List ℕ → ℕ

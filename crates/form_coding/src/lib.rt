@@ -6,39 +6,23 @@
 
 mod stretches;
 
-ghost use Rattle.std.specs.Prelude.{◌≡◌, ◌+◌, ◌*◌, ◌<◌, ◌≤◌, true, [], ◌∷◌, length, get_or, drop};
+ghost use Rattle.std.specs.Prelude.{◌≡◌, ◌+◌, ◌*◌, ◌^◌, ◌<◌, ◌≤◌, length};
 ghost use Rattle.std.proofs.lemmas.List.Edits.{sets};
 ghost use Rattle.octets.specs.Lists.{same};
 ghost use Rattle.octets.specs.Writing.{Appended};
-ghost use Rattle.encoding.specs.Hex.{hex_value};
-ghost use Rattle.form_coding.specs.Coding.{is_escape, decode, symbol_of, sound, well_formed, is_kept, encode_byte, encode};
+ghost use Rattle.form_coding.specs.Coding.{escaped, decode, symbol_of, sound, well_formed, is_kept, encode_byte, encode};
 ghost use Rattle.form_coding.specs.Turns.{turn_width, turn_bytes, turns, stands_at};
 
-// The byte at i, or 0 past the end, which is no hex digit.
-fn byte_or_zero(v: &[u8], i: usize) -> u8
-    ensures { result ≡ get_or v.now i 0 }
-{
-    if i < v.len() { v[i] } else { 0 }
-}
+use encoding::{hex_digit, hex_value};
 
-// The value of the hex digit at i, of either case: 16 where there is none.
-fn digit_at(v: &[u8], i: usize) -> u8
-    ensures { result ≡ hex_value true (get_or v.now i 0) }
+// The byte of the escape at the front, % and two hex digits of either case, if there is one.
+fn escape(s: &[u8]) -> Option<u8>
+    ensures { result ≡ escaped s.now }
 {
-    encoding::hex_value(byte_or_zero(v, i), true)
-}
-
-// Whether an escape, % and two hex digits, begins at i.
-fn is_escape(v: &[u8], i: usize) -> bool
-    requires { i < length v.now }
-    ensures { result ≡ is_escape (drop i v.now) }
-{
-    if v[i] != b'%' {
-        return false;
+    match *s {
+        [b'%', high, low, ..] => Some(hex_value(high, true)? * 16 + hex_value(low, true)?),
+        _ => None,
     }
-    let h = digit_at(v, i + 1);
-    let l = digit_at(v, i + 2);
-    (h < 16) & (l < 16)
 }
 
 // A decoded byte, and how many bytes it is written in.
@@ -48,38 +32,32 @@ struct Symbol {
     width: usize,
 }
 
-// The symbol that begins at i.
-fn symbol_at(v: &[u8], i: usize) -> Symbol
-    requires { i < length v.now }
-    ensures { result ≡ symbol_of (drop i v.now) }
+// The symbol at the front.
+fn first_symbol(s: &[u8]) -> Symbol
+    requires { 0 < length s.now }
+    ensures { result ≡ symbol_of s.now }
 {
-    let c = v[i];
-    if c == b'+' {
+    if s[0] == b'+' {
         return Symbol {
             byte: b' ',
             width: 1,
         };
     }
-    let h = digit_at(v, i + 1);
-    let l = digit_at(v, i + 2);
-    if (c == b'%') & ((h < 16) & (l < 16)) {
-        return Symbol {
-            byte: h * 16 + l,
-            width: 3,
-        };
+    match escape(s) {
+        Some(byte) => Symbol { byte, width: 3 },
+        None => Symbol {
+            byte: s[0],
+            width: 1,
+        },
     }
-    Symbol { byte: c, width: 1 }
 }
 
-// Whether the byte at i is no % or begins an escape.
-fn sound_at(v: &[u8], i: usize) -> bool
-    requires { i < length v.now }
-    ensures { result ≡ sound (drop i v.now) }
+// Whether the first byte is no % or begins an escape.
+fn is_sound(s: &[u8]) -> bool
+    requires { 0 < length s.now }
+    ensures { result ≡ sound s.now }
 {
-    if v[i] != b'%' {
-        return true;
-    }
-    is_escape(v, i)
+    s[0] != b'%' || escape(s).is_some()
 }
 
 // Whether each % begins an escape.
@@ -87,17 +65,11 @@ pub fn well_formed(v: &[u8]) -> bool
     ensures { result ≡ well_formed v.now }
 {
     let mut ok = true;
+    // By index: the test looks at a byte and at those behind it, and `windows` leaves out the last two.
     for i in 0..v.len() {
-        ok = ok & sound_at(v, i);
+        ok = ok & is_sound(&v[i..]);
     }
     ok
-}
-
-// Whether the byte b stands at index k of e: past the end none does.
-fn is_at(e: &[u8], k: usize, b: u8) -> bool
-    ensures { result ≡ stands_at e.now k (b ∷ []) }
-{
-    (k < e.len()) & (b == byte_or_zero(e, k))
 }
 
 // Whether a text stands from index k of e on.
@@ -105,7 +77,7 @@ fn stands_at(e: &[u8], k: usize, text: &[u8]) -> bool
     ensures { result ≡ stands_at e.now k text.now }
 {
     if e.len() < k {
-        return text.len() == 0;
+        return text.is_empty();
     }
     let n = text.len();
     if e.len() - k < n {
@@ -114,35 +86,34 @@ fn stands_at(e: &[u8], k: usize, text: &[u8]) -> bool
     octets::equal(text, &e[k..k + n])
 }
 
-// A turn that was compared: whether the bytes that it decodes to are those of e, where the next turn begins in the value, and
+// A turn that was compared: whether the bytes that it decodes to are those of e, how many bytes of the value it takes, and
 // where those bytes end in e.
 #[derive(Clone, Copy)]
 struct Compared {
     equal: bool,
-    next: usize,
+    width: usize,
     end: usize,
 }
 
-// Compares the turn that begins at i with the bytes of e from k on.
-fn compare_turn(v: &[u8], i: usize, e: &[u8], k: usize) -> Compared
-    requires { (i < length v.now) × (k ≤ i) }
-    ensures place { (result.next ≡ i + turn_width (drop i v.now)) × (result.end ≡ k + length (turn_bytes (drop i v.now))) }
-    ensures equal { result.equal ≡ stands_at e.now k (turn_bytes (drop i v.now)) }
+// Compares the turn at the front with the bytes of e from k on.
+fn compare_turn(s: &[u8], e: &[u8], k: usize) -> Compared
+    requires { (0 < length s.now) × (k + length s.now < 2 ^ 64) }
+    ensures place { (result.width ≡ turn_width s.now) × (result.end ≡ k + length (turn_bytes s.now)) }
+    ensures within { (0 < result.width) × (result.width ≤ length s.now) }
+    ensures equal { result.equal ≡ stands_at e.now k (turn_bytes s.now) }
 {
-    if stretches::is_mark(v[i]) {
-        let s = symbol_at(v, i);
-        let equal = is_at(e, k, s.byte);
+    if stretches::is_mark(s[0]) {
+        let Symbol { byte, width } = first_symbol(s);
         return Compared {
-            equal,
-            next: i + s.width,
+            equal: stands_at(e, k, &[byte]),
+            width,
             end: k + 1,
         };
     }
-    let n = stretches::stretch_length(&v[i..]);
-    let equal = stands_at(e, k, &v[i..i + n]);
+    let n = stretches::stretch_length(s);
     Compared {
-        equal,
-        next: i + n,
+        equal: stands_at(e, k, &s[..n]),
+        width: n,
         end: k + n,
     }
 }
@@ -152,42 +123,41 @@ pub fn value_equals(v: &[u8], e: &[u8]) -> bool
     ensures { result ≡ same (decode v.now) e.now }
 {
     let mut ok = true;
-    let mut i = 0;
+    let mut rest = v;
     let mut k = 0;
-    while i < v.len() {
-        let t = compare_turn(v, i, e, k);
+    while !rest.is_empty() {
+        let t = compare_turn(rest, e, k);
         ok = ok & t.equal;
-        i = t.next;
+        rest = &rest[t.width..];
         k = t.end;
     }
     // nothing of v is left, so nothing of e may be; past the end of e ok is false
     ok & (e.len() <= k)
 }
 
-// A turn that was decoded: where the next begins in the value, and where what it wrote ends.
+// A turn that was decoded: how many bytes of the value it takes, and where what it wrote ends.
 #[derive(Clone, Copy)]
 struct Turn {
-    next: usize,
+    width: usize,
     end: usize,
 }
 
-// Decodes the turn that begins at i, to out from `at` on.
-fn decode_turn(v: &[u8], i: usize, out: &mut [u8], at: usize) -> Turn
-    requires { (i < length v.now) × (at ≤ i) × (length v.now ≤ length out.old) }
-    ensures next { result.next ≡ i + turn_width (drop i v.now) }
-    ensures bytes { Appended out.old at (turn_bytes (drop i v.now)) out.new result.end }
+// Decodes the turn at the front, to out from `at` on. Not one with compare_turn: a short stretch is copied while its end is
+// looked for, not measured first.
+fn decode_turn(s: &[u8], out: &mut [u8], at: usize) -> Turn
+    requires { (0 < length s.now) × (at + length s.now ≤ length out.old) }
+    ensures width { result.width ≡ turn_width s.now }
+    ensures within { (0 < result.width) × (result.width ≤ length s.now) }
+    ensures bytes { Appended out.old at (turn_bytes s.now) out.new result.end }
 {
-    if stretches::is_mark(v[i]) {
-        let s = symbol_at(v, i);
-        out[at] = s.byte;
-        return Turn {
-            next: i + s.width,
-            end: at + 1,
-        };
+    if stretches::is_mark(s[0]) {
+        let Symbol { byte, width } = first_symbol(s);
+        out[at] = byte;
+        return Turn { width, end: at + 1 };
     }
-    let n = stretches::copy_stretch(&v[i..], out, at);
+    let n = stretches::copy_stretch(s, out, at);
     Turn {
-        next: i + n,
+        width: n,
         end: at + n,
     }
 }
@@ -205,12 +175,12 @@ pub fn decode_in_turns(v: &[u8], out: &mut [u8]) -> Decoding
     ensures answer { result ≡ record { length = length (decode v.now); turns = turns v.now } }
     ensures bytes { out.new ≡ sets out.old 0 (decode v.now) }
 {
-    let mut i = 0;
+    let mut rest = v;
     let mut n = 0;
     let mut turns = 0;
-    while i < v.len() {
-        let t = decode_turn(v, i, out, n);
-        i = t.next;
+    while !rest.is_empty() {
+        let t = decode_turn(rest, out, n);
+        rest = &rest[t.width..];
         n = t.end;
         turns += 1;
     }
@@ -223,14 +193,14 @@ pub fn decode_into(v: &[u8], out: &mut [u8]) -> usize
     ensures count { result ≡ length (decode v.now) }
     ensures bytes { out.new ≡ sets out.old 0 (decode v.now) }
 {
-    let d = decode_in_turns(v, out);
-    d.length
+    decode_in_turns(v, out).length
 }
 
 // Whether the writer keeps a byte as it is: letters, digits and - . _ *
 fn is_kept(c: u8) -> bool
     ensures { result ≡ is_kept c }
 {
+    // tests joined by `&` and `|`: with `matches!` a value takes 1.8 times as long to write
     (b'0' <= c) & (c <= b'9')
         | (b'A' <= c) & (c <= b'Z')
         | (b'a' <= c) & (c <= b'z')
@@ -246,17 +216,13 @@ fn append_byte(out: &mut [u8], at: usize, b: u8) -> usize
     ensures { Appended out.old at (encode_byte b) out.new result }
 {
     if is_kept(b) {
-        out[at] = b;
-        return at + 1;
+        return octets::append(out, at, &[b]);
     }
     if b == b' ' {
-        out[at] = b'+';
-        return at + 1;
+        return octets::append(out, at, b"+");
     }
-    out[at] = b'%';
-    out[at + 1] = encoding::hex_digit(b / 16, b'A');
-    out[at + 2] = encoding::hex_digit(b % 16, b'A');
-    at + 3
+    let escape = [b'%', hex_digit(b / 16, b'A'), hex_digit(b % 16, b'A')];
+    octets::append(out, at, &escape)
 }
 
 // Writes the bytes of v from `at` on, and says where they end. Each takes at most three.
@@ -265,8 +231,8 @@ pub fn append_value(out: &mut [u8], at: usize, v: &[u8]) -> usize
     ensures { Appended out.old at (encode v.now) out.new result }
 {
     let mut next = at;
-    for k in 0..v.len() {
-        next = append_byte(out, next, v[k]);
+    for &b in v {
+        next = append_byte(out, next, b);
     }
     next
 }

@@ -24,17 +24,14 @@ pub fn is_mark(c: u8) -> bool
 fn all_plain(s: &[u8]) -> bool
     ensures { result ≡ every is_plain s.now }
 {
-    let mut ok = true;
-    for i in 0..s.len() {
-        ok = ok & !is_mark(s[i]);
-    }
-    ok
+    octets::all(s, |c| !is_mark(c))
 }
 
 // How many bytes the plain blocks at the front take: none where the second byte already is a % or a +, so that no block is
 // tested for a stretch of one byte.
 fn plain_blocks(s: &[u8]) -> usize
-    ensures { result ≤ stretch s.now }
+    ensures plain { result ≤ stretch s.now }
+    ensures within { result ≤ length s.now }
 {
     if s.len() < BLOCK {
         return 0;
@@ -42,28 +39,22 @@ fn plain_blocks(s: &[u8]) -> usize
     if is_mark(s[1]) {
         return 0;
     }
-    let mut k = 0;
-    while BLOCK <= s.len() - k {
-        if !all_plain(&s[k..k + BLOCK]) {
-            return k;
+    let (blocks, _) = s.as_chunks::<BLOCK>();
+    for (i, block) in blocks.iter().enumerate() {
+        if !all_plain(block) {
+            return i * BLOCK;
         }
-        k += BLOCK;
     }
-    k
+    blocks.len() * BLOCK
 }
 
 // The length of the stretch at the front.
 pub fn stretch_length(s: &[u8]) -> usize
     ensures { result ≡ stretch s.now }
 {
-    let mut i = plain_blocks(s);
-    while i < s.len() {
-        if is_mark(s[i]) {
-            return i;
-        }
-        i += 1;
-    }
-    i
+    let k = plain_blocks(s);
+    let rest = &s[k..];
+    k + rest.iter().position(|c| is_mark(*c)).unwrap_or(rest.len())
 }
 
 // Copies the stretch at the front to out from `at` on, byte by byte, and gives its length.
@@ -72,16 +63,13 @@ fn copy_short(s: &[u8], out: &mut [u8], at: usize) -> usize
     ensures count { result ≡ stretch s.now }
     ensures bytes { Appended out.old at (take result s.now) out.new (at + result) }
 {
-    let mut i = 0;
-    while i < s.len() {
-        let c = s[i];
+    for (i, &c) in s.iter().enumerate() {
         if is_mark(c) {
             return i;
         }
         out[at + i] = c;
-        i += 1;
     }
-    i
+    s.len()
 }
 
 // Copies the stretch at the front to out from `at` on, at a go once it is found, and gives its length.

@@ -5,14 +5,15 @@ use Prim.Native.Nat.{ℕ}
 use mathlib.Core.Path.{◌≡◌, refl}
 use mathlib.Core.Bool.{Bool, true, false}
 use mathlib.Core.List.{List, [], ◌∷◌, ◌++◌, map}
+use Rattle.std.specs.Prelude.{Option, Some, None, Result, Err}
 use lib.ListN.{replicate}
 use Rattle.octets.specs.Lists.{same}
-use Rattle.encoding.specs.declared.HandleText.{HandleText}
 use Rattle.token_store.specs.Layout.{handle_size}
 use Rattle.octets.specs.Search.{count, any, first_or, replace_first, replace_all}
 use Rattle.token_store.specs.Store.{kind_code, kind_bound_code, kind_access, kind_refresh, kind_spent, no_link, link_to, free_slot, spent_code}
 use Rattle.token_store.specs.declared.Slot.{Slot}
 use Rattle.protocol.specs.declared.ErrorWord.TheVariants.{InvalidGrant, InvalidScope, TemporarilyUnavailable, ServerError}
+use Rattle.protocol.specs.declared.Refusal.{Refusal}
 use Rattle.protocol.specs.declared.Refusal.TheVariants.{Redirect, Token, Failed}
 use Rattle.protocol.specs.declared.Failure.TheVariants.{NoRoom, Clash}
 use Rattle.protocol.specs.declared.ScopeAsked.{ScopeAsked}
@@ -20,17 +21,17 @@ use Rattle.protocol.specs.declared.ScopeAsked.TheVariants.{Everything, Only, Unr
 use Rattle.protocol.specs.declared.Request.TheVariants.{Code, Exchange, Refresh, Credentials, Revocation}
 use Rattle.protocol.specs.declared.Reading.{Reading}
 use Rattle.protocol.specs.Refusals.{first_of}
-use Rattle.protocol.specs.Requests.{fits, scope_given, no_challenge, presenting_none, refused_reading}
+use Rattle.protocol.specs.Requests.{fits, scope_given, presenting_none, refused_reading}
 use Rattle.protocol.specs.Granting.{Plan, refused_plan, code_plan, exchange_plan, refresh_plan, credentials_plan, revocation_plan, plan_for, plan_of, decision_on, slots_by, slots_after}
-use Rattle.granting.specs.declared.Granted.{Granted}
-use Rattle.granting.specs.Granted.{refused_with, granted_with, granted_by}
+use Rattle.granting.specs.declared.Issued.{Issued}
+use Rattle.granting.specs.Granted.{granted_with, granted_by}
 
 -- a handle of one byte twenty times, and as it is presented
 abbrev handle : ℕ → List ℕ
 handle x = replicate handle_size x
 
-abbrev shown : ℕ → HandleText
-shown x = record { valid = true; bytes = handle x }
+abbrev shown : ℕ → Option (List ℕ)
+shown x = Some (handle x)
 
 -- of client 0, for farm 5 and the scope set 11: a slot of a kind, with a handle, until some time, with a link; that to a code
 abbrev slot : ℕ → ℕ → ℕ → List ℕ → Slot
@@ -61,13 +62,13 @@ abbrev authorize : Bool → Reading
 authorize bound = presenting_none (Code (record { client = 0; farm = 5; scope = 11; bound = bound }))
 
 abbrev exchange : ℕ → ℕ → Bool → Reading
-exchange client x again = record { request = Exchange (record { client = client; again = again }); presented = shown x; challenge = no_challenge }
+exchange client x again = record { request = Exchange (record { client = client; again = again }); presented = shown x; challenge = None }
 
 abbrev refresh : ℕ → ℕ → ScopeAsked → Reading
-refresh client x scope = record { request = Refresh (record { client = client; scope = scope }); presented = shown x; challenge = no_challenge }
+refresh client x scope = record { request = Refresh (record { client = client; scope = scope }); presented = shown x; challenge = None }
 
 abbrev revocation : ℕ → ℕ → Reading
-revocation client x = record { request = Revocation (record { client = client }); presented = shown x; challenge = no_challenge }
+revocation client x = record { request = Revocation (record { client = client }); presented = shown x; challenge = None }
 
 -- an access token for client 0 itself
 abbrev itself : Reading
@@ -83,55 +84,55 @@ pub record Case : Type 0 where
   pub slots : List Slot
   pub random : List ℕ
   pub reading : Reading
-  pub answer : Granted
+  pub answer : Result Issued Refusal
 
-abbrev case : ℕ → List Slot → List ℕ → Reading → Granted → Case
+abbrev case : ℕ → List Slot → List ℕ → Reading → Result Issued Refusal → Case
 case t slots random reading answer = record { t = t; slots = slots; random = random; reading = reading; answer = answer }
 
 abbrev cases : List Case
 cases =
     -- a code; no slot; the handle of a slot in use; a call that was refused as it was read
     case 1000 slots (handle 1) (authorize true) (granted_with 11 false)
-    ∷ case 1000 (code ∷ token ∷ []) (handle 1) (authorize true) (refused_with (Redirect TemporarilyUnavailable))
-    ∷ case 1000 slots (handle 8) (authorize true) (refused_with (Redirect ServerError))
-    ∷ case 1000 slots [] (refused_reading (Token InvalidScope)) (refused_with (Token InvalidScope))
+    ∷ case 1000 (code ∷ token ∷ []) (handle 1) (authorize true) (Err (Redirect TemporarilyUnavailable))
+    ∷ case 1000 slots (handle 8) (authorize true) (Err (Redirect ServerError))
+    ∷ case 1000 slots [] (refused_reading (Token InvalidScope)) (Err (Token InvalidScope))
     ∷ case 1599 slots (random 1 2) (exchange 0 7 true) (granted_with 11 true)
     -- run out; another client; the redirect address not repeated; a refresh token as a code; a spent code
-    ∷ case 1600 slots (random 1 2) (exchange 0 7 true) (refused_with (Token InvalidGrant))
-    ∷ case 1000 slots (random 1 2) (exchange 1 7 true) (refused_with (Token InvalidGrant))
-    ∷ case 1000 slots (random 1 2) (exchange 0 7 false) (refused_with (Token InvalidGrant))
-    ∷ case 1000 slots (random 1 2) (exchange 0 8 true) (refused_with (Token InvalidGrant))
-    ∷ case 1000 exchanged (random 1 2) (exchange 0 6 true) (refused_with (Token InvalidGrant))
+    ∷ case 1600 slots (random 1 2) (exchange 0 7 true) (Err (Token InvalidGrant))
+    ∷ case 1000 slots (random 1 2) (exchange 1 7 true) (Err (Token InvalidGrant))
+    ∷ case 1000 slots (random 1 2) (exchange 0 7 false) (Err (Token InvalidGrant))
+    ∷ case 1000 slots (random 1 2) (exchange 0 8 true) (Err (Token InvalidGrant))
+    ∷ case 1000 exchanged (random 1 2) (exchange 0 6 true) (Err (Token InvalidGrant))
     -- one slot besides its own; its own handle, a second handle that is in use, and two that are equal
-    ∷ case 1000 (free_slot ∷ code ∷ token ∷ []) (random 1 2) (exchange 0 7 true) (refused_with (Failed NoRoom))
-    ∷ case 1000 slots (random 7 2) (exchange 0 7 true) (refused_with (Failed Clash))
-    ∷ case 1000 slots (random 1 8) (exchange 0 7 true) (refused_with (Failed Clash))
-    ∷ case 1000 slots (random 1 1) (exchange 0 7 true) (refused_with (Failed Clash))
+    ∷ case 1000 (free_slot ∷ code ∷ token ∷ []) (random 1 2) (exchange 0 7 true) (Err (Failed NoRoom))
+    ∷ case 1000 slots (random 7 2) (exchange 0 7 true) (Err (Failed Clash))
+    ∷ case 1000 slots (random 1 8) (exchange 0 7 true) (Err (Failed Clash))
+    ∷ case 1000 slots (random 1 1) (exchange 0 7 true) (Err (Failed Clash))
     -- an origin is no handle, a spent code's is one
     ∷ case 1000 slots (random 6 2) (exchange 0 7 true) (granted_with 11 true)
-    ∷ case 1000 (spent_code code ∷ slots) (random 7 2) itself (refused_with (Failed Clash))
+    ∷ case 1000 (spent_code code ∷ slots) (random 7 2) itself (Err (Failed Clash))
     -- a refresh for the whole set, for less, for more, and for a value that is no scope
     ∷ case 1000 slots (random 1 2) (refresh 0 8 Everything) (granted_with 11 false)
     ∷ case 1000 slots (random 1 2) (refresh 0 8 (Only 9)) (granted_with 9 false)
-    ∷ case 1000 slots (random 1 2) (refresh 0 8 (Only 15)) (refused_with (Token InvalidScope))
-    ∷ case 1000 slots (random 1 2) (refresh 0 8 Unreadable) (refused_with (Token InvalidScope))
+    ∷ case 1000 slots (random 1 2) (refresh 0 8 (Only 15)) (Err (Token InvalidScope))
+    ∷ case 1000 slots (random 1 2) (refresh 0 8 Unreadable) (Err (Token InvalidScope))
     -- another client; no slot; the second handle is ignored, the first is not
-    ∷ case 1000 slots (random 1 2) (refresh 1 8 Everything) (refused_with (Token InvalidGrant))
-    ∷ case 1000 (code ∷ token ∷ []) (random 1 2) (refresh 0 8 Everything) (refused_with (Failed NoRoom))
+    ∷ case 1000 slots (random 1 2) (refresh 1 8 Everything) (Err (Token InvalidGrant))
+    ∷ case 1000 (code ∷ token ∷ []) (random 1 2) (refresh 0 8 Everything) (Err (Failed NoRoom))
     ∷ case 1000 slots (random 1 1) (refresh 0 8 Everything) (granted_with 11 false)
-    ∷ case 1000 slots (random 8 1) (refresh 0 8 Everything) (refused_with (Failed Clash))
+    ∷ case 1000 slots (random 8 1) (refresh 0 8 Everything) (Err (Failed Clash))
     -- the client for itself; no slot; the second handle is ignored, the first is not
     ∷ case 1000 slots (random 1 2) itself (granted_with 9 false)
-    ∷ case 1000 (code ∷ token ∷ []) (random 1 2) itself (refused_with (Failed NoRoom))
+    ∷ case 1000 (code ∷ token ∷ []) (random 1 2) itself (Err (Failed NoRoom))
     ∷ case 1000 slots (random 1 8) itself (granted_with 9 false)
-    ∷ case 1000 slots (random 8 1) itself (refused_with (Failed Clash))
+    ∷ case 1000 slots (random 8 1) itself (Err (Failed Clash))
     -- a revocation, without random bytes; another client's token; a handle that no slot has, and that of a code
     ∷ case 1000 exchanged [] (revocation 0 8) (granted_with 0 false)
-    ∷ case 1000 exchanged [] (revocation 1 8) (refused_with (Token InvalidGrant))
+    ∷ case 1000 exchanged [] (revocation 1 8) (Err (Token InvalidGrant))
     ∷ case 1000 exchanged [] (revocation 1 9) (granted_with 0 false)
     ∷ case 1000 slots [] (revocation 1 7) (granted_with 0 false)
     -- at its expiry it is nobody's
-    ∷ case 8999 exchanged [] (revocation 1 8) (refused_with (Token InvalidGrant))
+    ∷ case 8999 exchanged [] (revocation 1 8) (Err (Token InvalidGrant))
     ∷ case 9000 exchanged [] (revocation 1 8) (granted_with 0 false)
     ∷ []
 

@@ -2,176 +2,148 @@
 //
 // A grant decides first and changes the store only once nothing is left to refuse: a request that is refused spends
 // nothing. One refusal changes the store: a code that is shown again withdraws the tokens that came from it. A revocation
-// that is granted issues nothing: it takes a token out of the store. Time is the call's time t, which no clock moves back,
-// and never a clock.
+// that is granted issues nothing: it takes a token out of the store. Time is the call's time t, and never a clock.
 #![tactic(auto)]
 
 ghost use Rattle.std.specs.Prelude.{◌≡◌, [], ◌+◌, ◌<◌, ◌≤◌, length, set};
-ghost use Rattle.token_store.specs.Layout.{store_size, slot_count, latest_time};
+ghost use Rattle.token_store.specs.Layout.{slot_count, latest_time};
 ghost use Rattle.token_store.specs.Store.{decode, with_slots, spent_code, code_kind, kind_last, lifetime_of};
 ghost use Rattle.protocol.specs.Limits.{code_random, token_random};
 ghost use Rattle.protocol.specs.Granting.{new_code, token_on, client_token, is_unverified, refused_slots, any_taken, single_plan, access_plan, code_plan, exchange_plan, refresh_plan, credentials_plan, revocation_plan, plan_of};
-ghost use Rattle.granting.specs.Granted.{refused_with, granted_with, Follows, random_needed, own_at, spent_on, freed_at};
+ghost use Rattle.granting.specs.Granted.{Follows, random_needed, own_at, spent_on, freed_at};
 
-use encoding::{DigestText, HandleText};
+use encoding::{Digest, Handle};
 use protocol::{
-    CodeRequest, CredentialsRequest, Decision, ErrorWord, ExchangeRequest, Failure, NO_FARM,
-    Reading, RefreshRequest, Refusal, Request, RevocationRequest,
+    CodeRequest, CredentialsRequest, ErrorWord, ExchangeRequest, Failure, NO_FARM, Reading,
+    RefreshRequest, Refusal, Request, RevocationRequest,
 };
 use token_store::layout::{
     HANDLE_SIZE, KIND_ACCESS, KIND_BOUND_CHALLENGED_CODE, KIND_BOUND_CODE, KIND_CHALLENGED_CODE,
     KIND_CODE, KIND_REFRESH, KIND_SPENT, LINK_SIZE,
 };
-use token_store::{Found, Slot, Sought};
+use token_store::{Slot, Sought, StoreBytes};
 
-// What a request comes to: the decision; the scope of what is issued, and whether a refresh token comes with it; 0 and
-// false where nothing is issued.
+// The time of a call, which no clock moves back. Its range leaves room for the lifetime of what is issued then.
 #[derive(Clone, Copy)]
-pub struct Granted {
-    pub decision: Decision,
+pub struct Time {
+    pub seconds: u64,
+    ghost in_range: { seconds ≤ latest_time },
+}
+
+// What is issued on a request: its scope, and whether a refresh token comes with it.
+#[derive(Clone, Copy)]
+pub struct Issued {
     pub scope: u8,
     pub refresh: bool,
 }
 
-fn refused(refusal: Refusal) -> Granted
-    ensures { result ≡ refused_with refusal }
-{
-    Granted {
-        decision: Decision::Refuse(refusal),
-        scope: 0,
-        refresh: false,
-    }
-}
-
-fn issued(scope: u8, refresh: bool) -> Granted
-    ensures { result ≡ granted_with scope refresh }
-{
-    Granted {
-        decision: Decision::Grant,
-        scope,
-        refresh,
-    }
-}
+// A revocation that is granted issues nothing.
+const NOTHING: Issued = Issued {
+    scope: 0,
+    refresh: false,
+};
 
 // ---- what is issued
 
 // When what is issued at t runs out: its kind says how long it lives.
-fn expiry_at(t: u64, kind: u8) -> u64
-    requires { (t ≤ latest_time) × (kind ≤ kind_last) }
-    ensures { result ≡ t + lifetime_of kind }
+fn expiry_at(t: Time, kind: u8) -> u64
+    requires { kind ≤ kind_last }
+    ensures { result ≡ t.seconds + lifetime_of kind }
 {
-    t + token_store::lifetime(kind)
+    t.seconds + token_store::lifetime(kind)
 }
 
 // The kind of a code, by whether it is bound to its redirect address and whether it has a challenge.
 fn code_kind(bound: bool, challenged: bool) -> u8
     ensures { result ≡ code_kind bound challenged }
 {
-    if challenged {
-        return if bound {
-            KIND_BOUND_CHALLENGED_CODE
-        } else {
-            KIND_CHALLENGED_CODE
-        };
+    match (bound, challenged) {
+        (false, false) => KIND_CODE,
+        (true, false) => KIND_BOUND_CODE,
+        (false, true) => KIND_CHALLENGED_CODE,
+        (true, true) => KIND_BOUND_CHALLENGED_CODE,
     }
-    if bound { KIND_BOUND_CODE } else { KIND_CODE }
 }
 
 // The code that is issued on a request with a challenge, or without one.
-fn new_code(t: u64, handle: [u8; HANDLE_SIZE], challenge: DigestText, request: CodeRequest) -> Slot
-    requires { t ≤ latest_time }
-    ensures { result ≡ new_code t handle challenge request }
+fn new_code(t: Time, handle: Handle, challenge: Option<Digest>, request: CodeRequest) -> Slot
+    ensures { result ≡ new_code t.seconds handle challenge request }
 {
-    let kind = code_kind(request.bound, challenge.valid);
-    let expiry = expiry_at(t, kind);
-    let link = challenge.bytes;
+    let kind = code_kind(request.bound, challenge.is_some());
     Slot {
         kind,
         handle,
         client: request.client,
         farm: request.farm,
         scope: request.scope,
-        expiry,
-        link,
+        expiry: expiry_at(t, kind),
+        link: challenge.unwrap_or([0u8; LINK_SIZE]),
     }
 }
 
 // The token that is issued on the code or refresh token `shown`, from the code of the handle `origin`: client and farm
 // are those of `shown`.
-fn token_on(
-    shown: Slot,
-    origin: [u8; HANDLE_SIZE],
-    t: u64,
-    kind: u8,
-    handle: [u8; HANDLE_SIZE],
-    scope: u8,
-) -> Slot
-    requires { (t ≤ latest_time) × (kind ≤ kind_last) }
-    ensures { result ≡ token_on shown origin t kind handle scope }
+fn token_on(shown: Slot, origin: Handle, t: Time, kind: u8, handle: Handle, scope: u8) -> Slot
+    requires { kind ≤ kind_last }
+    ensures { result ≡ token_on shown origin t.seconds kind handle scope }
 {
-    let expiry = expiry_at(t, kind);
-    let link = token_store::link_to(origin);
     Slot {
         kind,
         handle,
         scope,
-        expiry,
-        link,
+        expiry: expiry_at(t, kind),
+        link: token_store::link_to(origin),
         ..shown
     }
 }
 
 // The access token that is issued to a client for itself: no owner allowed a farm, and it came from no code but itself.
-fn client_token(t: u64, handle: [u8; HANDLE_SIZE], request: CredentialsRequest) -> Slot
-    requires { t ≤ latest_time }
-    ensures { result ≡ client_token t handle request }
+fn client_token(t: Time, handle: Handle, credentials: CredentialsRequest) -> Slot
+    ensures { result ≡ client_token t.seconds handle credentials }
 {
-    let client = request.client;
-    let scope = request.scope;
-    let kind = KIND_ACCESS;
-    let expiry = expiry_at(t, kind);
-    let link = token_store::link_to(handle);
     Slot {
-        kind,
+        kind: KIND_ACCESS,
         handle,
-        client,
+        client: credentials.client,
         farm: NO_FARM,
-        scope,
-        expiry,
-        link,
+        scope: credentials.scope,
+        expiry: expiry_at(t, KIND_ACCESS),
+        link: token_store::link_to(handle),
     }
 }
 
 // ---- what is looked at
 
 // The slot of the code or refresh token presented, where it is live at t and the client's own.
-fn find_own(store: &[u8], t: u64, sought: Sought, presented: HandleText, client: u8) -> Found
-    requires { length store.now ≡ store_size }
-    ensures { result ≡ own_at t client sought presented (decode store.now).slots }
+fn find_own(
+    store: &StoreBytes,
+    t: Time,
+    sought: Sought,
+    presented: Option<Handle>,
+    client: u8,
+) -> Option<usize>
+    ensures { result ≡ own_at t.seconds client sought presented (decode store.now).slots }
 {
-    let Found::At(i) = token_store::find(store, sought, presented) else {
-        return Found::Nothing;
-    };
+    let i = token_store::find(store, sought, presented)?;
     let slot = token_store::slot_at(store, i);
-    if slot.is_live(t) & (slot.client == client) {
-        return Found::At(i);
+    if slot.is_live(t.seconds) & (slot.client == client) {
+        Some(i)
+    } else {
+        None
     }
-    Found::Nothing
 }
 
 // Whether a code has a challenge that is not the one answered. All of its bytes are looked at, wherever the two differ.
-fn is_unverified(answered: DigestText, code: Slot) -> bool
+fn is_unverified(answered: Option<Digest>, code: Slot) -> bool
     ensures { result ≡ is_unverified answered code }
 {
-    let digest = answered.bytes;
-    let challenge = code.link;
-    let equal = octets::equal(&digest, &challenge);
-    code.is_challenged() & !(answered.valid & equal)
+    let digest = answered.unwrap_or([0u8; LINK_SIZE]);
+    let equal = octets::equal(&digest, &code.link);
+    code.is_challenged() & !(answered.is_some() & equal)
 }
 
 // Whether one of two handles is in use, or they are equal.
-fn any_clash(store: &[u8], first: &[u8], second: &[u8]) -> bool
-    requires { length store.now ≡ store_size }
+fn any_clash(store: &StoreBytes, first: &[u8], second: &[u8]) -> bool
     ensures { result ≡ any_taken first.now second.now (decode store.now).slots }
 {
     let one = token_store::clashes(store, first);
@@ -182,27 +154,33 @@ fn any_clash(store: &[u8], first: &[u8], second: &[u8]) -> bool
 // ---- grants
 
 // Issues one code or token, unless there is no slot for it or its handle is in use.
-fn grant_single(store: &mut [u8], t: u64, new: Slot, full: Refusal, clash: Refusal) -> Granted
-    requires { length store.old ≡ store_size }
+fn grant_single(
+    store: &mut StoreBytes,
+    t: Time,
+    new: Slot,
+    full: Refusal,
+    clash: Refusal,
+) -> Result<Issued, Refusal>
     ensures { let before = decode store.old in
-        Follows (single_plan t before.slots full clash new) before result (decode store.new) }
+        Follows (single_plan t.seconds before.slots full clash new) before result (decode store.new) }
 {
-    if !token_store::has_room(store, t, 1) {
-        return refused(full);
+    if !token_store::has_room(store, t.seconds, 1) {
+        return Err(full);
     }
-    let handle = new.handle;
-    if token_store::clashes(store, &handle) {
-        return refused(clash);
+    if token_store::clashes(store, &new.handle) {
+        return Err(clash);
     }
-    token_store::issue(store, t, new);
-    issued(new.scope, false)
+    token_store::issue(store, t.seconds, new);
+    Ok(Issued {
+        scope: new.scope,
+        refresh: false,
+    })
 }
 
 // Issues one access token.
-fn grant_access(store: &mut [u8], t: u64, token: Slot) -> Granted
-    requires { length store.old ≡ store_size }
+fn grant_access(store: &mut StoreBytes, t: Time, token: Slot) -> Result<Issued, Refusal>
     ensures { let before = decode store.old in
-        Follows (access_plan t before.slots token) before result (decode store.new) }
+        Follows (access_plan t.seconds before.slots token) before result (decode store.new) }
 {
     grant_single(
         store,
@@ -215,17 +193,17 @@ fn grant_access(store: &mut [u8], t: u64, token: Slot) -> Granted
 
 // Issues a code.
 fn grant_code(
-    store: &mut [u8],
-    t: u64,
+    store: &mut StoreBytes,
+    t: Time,
     random: &[u8],
-    challenge: DigestText,
+    challenge: Option<Digest>,
     request: CodeRequest,
-) -> Granted
-    requires { (length store.old ≡ store_size) × (t ≤ latest_time) × (code_random ≤ length random.now) }
+) -> Result<Issued, Refusal>
+    requires { code_random ≤ length random.now }
     ensures { let before = decode store.old in
-        Follows (code_plan t before.slots random.now challenge request) before result (decode store.new) }
+        Follows (code_plan t.seconds before.slots random.now challenge request) before result (decode store.new) }
 {
-    let handle = token_store::handle_at(random, 0);
+    let handle = octets::bytes_at(random, 0);
     grant_single(
         store,
         t,
@@ -237,33 +215,26 @@ fn grant_code(
 
 // Withdraws the tokens that came from the code presented, if it is a spent one of the client's that is still live. Another
 // code that has its handle, run out or not, comes before it.
-fn withdraw_shown_again(store: &mut [u8], t: u64, presented: HandleText, client: u8)
-    requires { length store.old ≡ store_size }
+fn withdraw_shown_again(store: &mut StoreBytes, t: Time, presented: Option<Handle>, client: u8)
     ensures { let before = decode store.old in
-        decode store.new ≡ with_slots before (refused_slots t client presented before.slots) }
+        decode store.new ≡ with_slots before (refused_slots t.seconds client presented before.slots) }
 {
-    let Found::Nothing = token_store::find(store, Sought::Code, presented) else {
+    if token_store::find(store, Sought::Code, presented).is_some() {
         return;
-    };
-    let Found::At(_) = find_own(store, t, Sought::Spent, presented, client) else {
+    }
+    if find_own(store, t, Sought::Spent, presented, client).is_none() {
         return;
-    };
-    let handle = presented.bytes;
-    token_store::clear_tokens(store, Sought::Token, &handle);
+    }
+    if let Some(handle) = presented {
+        token_store::clear_tokens(store, Sought::Token, &handle);
+    }
 }
 
 // Keeps a code as spent, then issues an access and a refresh token on it.
-fn spend(
-    store: &mut [u8],
-    t: u64,
-    i: usize,
-    code: Slot,
-    first: [u8; HANDLE_SIZE],
-    second: [u8; HANDLE_SIZE],
-)
-    requires { (length store.old ≡ store_size) × (t ≤ latest_time) × (i < slot_count) }
+fn spend(store: &mut StoreBytes, t: Time, i: usize, code: Slot, first: Handle, second: Handle)
+    requires { i < slot_count }
     ensures { let before = decode store.old in
-        decode store.new ≡ with_slots before (spent_on t first second code (set before.slots i (spent_code code))) }
+        decode store.new ≡ with_slots before (spent_on t.seconds first second code (set before.slots i (spent_code code))) }
 {
     let origin = code.handle;
     let scope = code.scope;
@@ -275,74 +246,78 @@ fn spend(
     token_store::put(store, i, spent);
     token_store::issue(
         store,
-        t,
+        t.seconds,
         token_on(code, origin, t, KIND_ACCESS, first, scope),
     );
     token_store::issue(
         store,
-        t,
+        t.seconds,
         token_on(code, origin, t, KIND_REFRESH, second, scope),
     );
 }
 
 // Exchanges the code presented for an access and a refresh token. A challenge that it has must be the one answered.
+// Here and below random is a slice: a request says how many bytes it needs (random_needed), and a plan is of the whole slice.
 fn grant_exchange(
-    store: &mut [u8],
-    t: u64,
+    store: &mut StoreBytes,
+    t: Time,
     random: &[u8],
-    presented: HandleText,
-    answered: DigestText,
+    presented: Option<Handle>,
+    answered: Option<Digest>,
     request: ExchangeRequest,
-) -> Granted
-    requires { (length store.old ≡ store_size) × (t ≤ latest_time) × (token_random ≤ length random.now) }
+) -> Result<Issued, Refusal>
+    requires { token_random ≤ length random.now }
     ensures { let before = decode store.old in
-        Follows (exchange_plan t before.slots random.now presented answered request) before result (decode store.new) }
+        Follows (exchange_plan t.seconds before.slots random.now presented answered request) before result (decode store.new) }
 {
-    let Found::At(i) = find_own(store, t, Sought::Code, presented, request.client) else {
+    let Some(i) = find_own(store, t, Sought::Code, presented, request.client) else {
         withdraw_shown_again(store, t, presented, request.client);
-        return refused(Refusal::Token(ErrorWord::InvalidGrant));
+        return Err(Refusal::Token(ErrorWord::InvalidGrant));
     };
     let code = token_store::slot_at(store, i);
     if code.is_bound_code() & !request.again {
-        return refused(Refusal::Token(ErrorWord::InvalidGrant));
+        return Err(Refusal::Token(ErrorWord::InvalidGrant));
     }
     if is_unverified(answered, code) {
-        return refused(Refusal::Token(ErrorWord::InvalidGrant));
+        return Err(Refusal::Token(ErrorWord::InvalidGrant));
     }
-    if !token_store::has_room(store, t, 2) {
-        return refused(Refusal::Failed(Failure::NoRoom));
+    if !token_store::has_room(store, t.seconds, 2) {
+        return Err(Refusal::Failed(Failure::NoRoom));
     }
-    let first = token_store::handle_at(random, 0);
-    let second = token_store::handle_at(random, HANDLE_SIZE);
+    let first = octets::bytes_at(random, 0);
+    let second = octets::bytes_at(random, HANDLE_SIZE);
     if any_clash(store, &first, &second) {
-        return refused(Refusal::Failed(Failure::Clash));
+        return Err(Refusal::Failed(Failure::Clash));
     }
     spend(store, t, i, code, first, second);
-    issued(code.scope, true)
+    Ok(Issued {
+        scope: code.scope,
+        refresh: true,
+    })
 }
 
 // Issues an access token on the refresh token presented, which stays. Of the random bytes the first handle is looked at.
 fn grant_refresh(
-    store: &mut [u8],
-    t: u64,
+    store: &mut StoreBytes,
+    t: Time,
     random: &[u8],
-    presented: HandleText,
+    presented: Option<Handle>,
     request: RefreshRequest,
-) -> Granted
-    requires { (length store.old ≡ store_size) × (t ≤ latest_time) × (token_random ≤ length random.now) }
+) -> Result<Issued, Refusal>
+    requires { token_random ≤ length random.now }
     ensures { let before = decode store.old in
-        Follows (refresh_plan t before.slots random.now presented request) before result (decode store.new) }
+        Follows (refresh_plan t.seconds before.slots random.now presented request) before result (decode store.new) }
 {
-    let Found::At(i) = find_own(store, t, Sought::Refresh, presented, request.client) else {
-        return refused(Refusal::Token(ErrorWord::InvalidGrant));
+    let Some(i) = find_own(store, t, Sought::Refresh, presented, request.client) else {
+        return Err(Refusal::Token(ErrorWord::InvalidGrant));
     };
     let token = token_store::slot_at(store, i);
     let asked = request.scope;
     if !parameters::scope_fits(asked, token.scope) {
-        return refused(Refusal::Token(ErrorWord::InvalidScope));
+        return Err(Refusal::Token(ErrorWord::InvalidScope));
     }
     let scope = parameters::scope_given(asked, token.scope);
-    let handle = token_store::handle_at(random, 0);
+    let handle = octets::bytes_at(random, 0);
     let origin = token.origin();
     let access = token_on(token, origin, t, KIND_ACCESS, handle, scope);
     grant_access(store, t, access)
@@ -350,22 +325,22 @@ fn grant_refresh(
 
 // Issues an access token to a client for itself. Of the random bytes the first handle is looked at.
 fn grant_credentials(
-    store: &mut [u8],
-    t: u64,
+    store: &mut StoreBytes,
+    t: Time,
     random: &[u8],
     request: CredentialsRequest,
-) -> Granted
-    requires { (length store.old ≡ store_size) × (t ≤ latest_time) × (token_random ≤ length random.now) }
+) -> Result<Issued, Refusal>
+    requires { token_random ≤ length random.now }
     ensures { let before = decode store.old in
-        Follows (credentials_plan t before.slots random.now request) before result (decode store.new) }
+        Follows (credentials_plan t.seconds before.slots random.now request) before result (decode store.new) }
 {
-    let handle = token_store::handle_at(random, 0);
+    let handle = octets::bytes_at(random, 0);
     grant_access(store, t, client_token(t, handle, request))
 }
 
 // Frees slot i with the token that is in it; with a refresh token the access tokens that came from the same code too.
-fn free_token(store: &mut [u8], i: usize, token: Slot)
-    requires { (length store.old ≡ store_size) × (i < slot_count) }
+fn free_token(store: &mut StoreBytes, i: usize, token: Slot)
+    requires { i < slot_count }
     ensures { let before = decode store.old in
         decode store.new ≡ with_slots before (freed_at i token before.slots) }
 {
@@ -378,36 +353,45 @@ fn free_token(store: &mut [u8], i: usize, token: Slot)
 
 // Revokes the token presented. One that is not there or has run out needs nothing; another client's is refused. No random
 // bytes are looked at.
-fn revoke(store: &mut [u8], t: u64, presented: HandleText, request: RevocationRequest) -> Granted
-    requires { length store.old ≡ store_size }
+fn revoke(
+    store: &mut StoreBytes,
+    t: Time,
+    presented: Option<Handle>,
+    request: RevocationRequest,
+) -> Result<Issued, Refusal>
     ensures { let before = decode store.old in
-        Follows (revocation_plan t before.slots [] presented request) before result (decode store.new) }
+        Follows (revocation_plan t.seconds before.slots [] presented request) before result (decode store.new) }
 {
-    let Found::At(i) = token_store::find(store, Sought::Token, presented) else {
-        return issued(0, false);
+    let Some(i) = token_store::find(store, Sought::Token, presented) else {
+        return Ok(NOTHING);
     };
     let token = token_store::slot_at(store, i);
-    if !token.is_live(t) {
-        return issued(0, false);
+    if !token.is_live(t.seconds) {
+        return Ok(NOTHING);
     }
     if token.client != request.client {
-        return refused(Refusal::Token(ErrorWord::InvalidGrant));
+        return Err(Refusal::Token(ErrorWord::InvalidGrant));
     }
     free_token(store, i, token);
-    issued(0, false)
+    Ok(NOTHING)
 }
 
 // Grants what a call asks, or refuses it. A call that was refused as it was read stays so.
-pub fn grant(store: &mut [u8], t: u64, random: &[u8], reading: Reading) -> Granted
-    requires { (length store.old ≡ store_size) × (t ≤ latest_time) × (random_needed reading.request ≤ length random.now) }
+pub fn grant(
+    store: &mut StoreBytes,
+    t: Time,
+    random: &[u8],
+    reading: Reading,
+) -> Result<Issued, Refusal>
+    requires { random_needed reading.request ≤ length random.now }
     ensures { let before = decode store.old in
-        Follows (plan_of t before.slots random.now reading) before result (decode store.new) }
+        Follows (plan_of t.seconds before.slots random.now reading) before result (decode store.new) }
 {
     let request = reading.request;
     let presented = reading.presented;
     let challenge = reading.challenge;
     match request {
-        Request::Refused(refusal) => refused(refusal),
+        Request::Refused(refusal) => Err(refusal),
         Request::Code(code) => grant_code(store, t, random, challenge, code),
         Request::Exchange(exchange) => grant_exchange(
             store, t, random, presented, challenge, exchange,

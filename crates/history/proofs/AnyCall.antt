@@ -7,6 +7,7 @@ use mathlib.Core.Path.{◌≡◌, refl, sym, ap, ◌∙◌}
 use mathlib.Core.Bool.{Bool, true, false, cond, not, false≢true}
 use mathlib.Core.List.{List, [], ◌∷◌}
 use Prim.Native.Nat.{ℕ, ◌≤◌}
+use Rattle.std.specs.Prelude.{Ok, Err, Option}
 use native.Mathlib.Omega.{arith}
 use borrow.Author.Tests.{ltb-false, eqb-true, not-false}
 use lib.Dec.{eqb, ltb, lit<}
@@ -14,8 +15,6 @@ use lib.ListN.{length}
 use lib.Seq.{sets, take_all}
 use Rattle.octets.specs.Lists.{Bytes}
 use Rattle.encoding.specs.Hex.{read_handle}
-use Rattle.encoding.specs.declared.DigestText.{DigestText}
-use Rattle.encoding.specs.declared.HandleText.{HandleText}
 use Rattle.client_registry.specs.Registry.{Client, fit_registry, clients_of}
 use Rattle.token_store.specs.Layout.{latest_time}
 use Rattle.token_store.specs.Store.{Store, is_live, encode, decode, call_time}
@@ -30,22 +29,21 @@ use Rattle.protocol.specs.declared.PageCause.TheVariants.{Query}
 use Rattle.protocol.specs.declared.Failure.{Failure}
 use Rattle.protocol.specs.declared.Failure.TheVariants.{NoRoom, Clash}
 use Rattle.protocol.specs.declared.Refusal.TheVariants.{Unfit, ErrorPage, Redirect, Token, Failed}
-use Rattle.protocol.specs.declared.Decision.{Decision}
-use Rattle.protocol.specs.declared.Decision.TheVariants.{Grant, Refuse}
 use Rattle.protocol.specs.declared.Request.{Request}
 use Rattle.protocol.specs.declared.Request.TheVariants.{Refused, Code, Exchange, Refresh, Credentials, Revocation}
 use Rattle.protocol.specs.declared.Reading.{Reading}
 use Rattle.protocol.specs.declared.LiveToken.{LiveToken}
 use Rattle.protocol.specs.declared.CheckAnswer.TheVariants.{NotLive, Live}
 use Rattle.protocol.specs.Limits.{least_output, code_random, token_random}
-use Rattle.protocol.specs.Answers.{is_grant, status_of, word_status, failure_status}
+use Rattle.protocol.specs.Answers.{is_grant, status_of, word_status, failure_status, Decision}
 use Rattle.protocol.specs.Refusals.{Reason, first_of}
 use Rattle.protocol.specs.Requests.{refused_reading}
 use Rattle.protocol.specs.Authorization.{read_authorization}
 use Rattle.protocol.specs.Token.{read_token}
 use Rattle.protocol.specs.Revocation.{read_revocation}
-use Rattle.protocol.specs.Granting.{Plan, shown_slot, live_token, refused_plan, code_plan, exchange_plan, refresh_plan, credentials_plan, revocation_plan, plan_for, plan_of, decision_on, slots_by, slots_after, check_slots}
+use Rattle.protocol.specs.Granting.{Plan, shown_slot, live_token, refused_plan, plan_for, plan_of, decision_on, slots_by, slots_after, check_slots}
 use Rattle.protocol.specs.Outcomes.{unfit_reasons, Handed, Endpoint, Outcome, admit, outcome_by, outcome, unfit_output, unfit_buffers, serve_authorization, authorization_endpoint, serve_token, token_endpoint, without_random, serve_revocation, revocation_endpoint, serve_check, check_endpoint, clock_alone}
+use Rattle.protocol.proofs.Computing.{plan_definitions}
 use Rattle.history.specs.Calls.{Call, authorization, token, revocation, check, handed_to, WellTyped}
 use Rattle.history.specs.Server.{Answer, authorization_answer, token_answer, check_answer, answering, outcome_of, is_unfit_refusal, is_unfit_decision, is_unfit_check, is_unfit, is_granted}
 use Rattle.history.specs.Contents.{first_twenty, last_twenty, twenties}
@@ -127,7 +125,7 @@ module _ (registry store : List ℕ) where
           (answering tag (outcome_by endpoint registry store handed d))
           (answering tag (served_on endpoint (clients_of registry) (decode store) handed))
 
-      refused : (i : Input) → P (Refuse (Unfit i))
+      refused : (i : Input) → P (Err (Unfit i))
       refused i = unseen i refl refl
 
   pub take : (c : Call) → TakenCall registry store c
@@ -216,19 +214,20 @@ failure-status : (f : Failure) → eqb (failure_status f) 200 ≡ false
 failure-status NoRoom = refl
 failure-status Clash = refl
 
-status-grant : (d : Decision) → eqb (status_of d) 200 ≡ is_grant d
+-- status 200 is that of a grant
+pub status-grant : (d : Decision) → eqb (status_of d) 200 ≡ is_grant d
 unfolding is_grant
-status-grant Grant = refl
-status-grant (Refuse (Unfit i)) = refl
-status-grant (Refuse (ErrorPage p)) = refl
-status-grant (Refuse (Redirect w)) = refl
-status-grant (Refuse (Token w)) = word-status w
-status-grant (Refuse (Failed f)) = failure-status f
+status-grant (Ok tt) = refl
+status-grant (Err (Unfit i)) = refl
+status-grant (Err (ErrorPage p)) = refl
+status-grant (Err (Redirect w)) = refl
+status-grant (Err (Token w)) = word-status w
+status-grant (Err (Failed f)) = failure-status f
 
 -- what is decided is no refusal with 1 to 4
-plan-fit : (clients : ℕ) (twenties : List (List ℕ)) (t : ℕ) (slots : List Slot) (random : List ℕ) (p : HandleText) (d : DigestText) (request : Request)
+plan-fit : (clients : ℕ) (twenties : List (List ℕ)) (t : ℕ) (slots : List Slot) (random : List ℕ) (p d : Option (List ℕ)) (request : Request)
     → Brings clients random twenties d request → is_unfit_decision (decision_on (plan_for t slots random p d request)) ≡ false
-unfolding plan_for refused_plan code_plan exchange_plan refresh_plan credentials_plan revocation_plan Brings is_unfit_decision is_unfit_refusal
+unfolding plan_definitions Brings is_unfit_decision is_unfit_refusal
 plan-fit clients twenties t slots random p d (Refused r) q = decided (λ made. is_unfit_decision made ≡ false) _ (q, tt) (λ _. refl)
 plan-fit clients twenties t slots random p d (Code r) q = decided (λ made. is_unfit_decision made ≡ false) _ (refl, (refl, tt)) (λ _. refl)
 plan-fit clients twenties t slots random p d (Exchange r) q =
@@ -242,8 +241,8 @@ unfolding slots_by is_grant
 refused-keeps plan = by (decision_on plan)
   where
     by : (d : Decision) → is_grant d ≡ false → slots_by d plan ≡ plan.denied
-    by Grant e = absurd (false≢true (sym e))
-    by (Refuse r) e = refl
+    by (Ok tt) e = absurd (false≢true (sym e))
+    by (Err r) e = refl
 
 live-fit : (b : Bool) (l : LiveToken) → is_unfit_check (cond b (Live l) NotLive) ≡ false
 unfolding is_unfit_check

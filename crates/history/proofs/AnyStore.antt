@@ -10,25 +10,25 @@ use mathlib.Core.Path.{◌≡◌, refl, sym, ap, ◌∙◌, fun_ext}
 use mathlib.Core.Bool.{Bool, true, false, cond, not, ◌&&◌, ◌||◌, or_assoc, or-false, true≢false}
 use mathlib.Core.List.{List, []}
 use Prim.Native.Nat.{ℕ, ◌≤◌}
+use Rattle.std.specs.Prelude.{Err, Option}
 use lib.Dec.{ltb, lit<}
 use native.Mathlib.Omega.{arith}
 use borrow.Author.Tests.{le-ltb}
-use lib.ListN.{length, take as take_first, drop, replicate}
+use lib.ListN.{length, take as take_first, drop}
 use lib.Seq.{take_at, drop_at, length-take-le, sets}
 use Rattle.octets.specs.Text.{bytes}
-use Rattle.octets.specs.Lists.{Bytes, every, same}
+use Rattle.octets.specs.Lists.{Bytes, every}
 use Rattle.octets.specs.Search.{any}
 use Rattle.octets.proofs.Booleans.{by-test, and_left}
 use Rattle.octets.proofs.Counting.{first_or-passes, first_or-none}
 use Rattle.encoding.specs.Hex.{read_handle}
-use Rattle.encoding.specs.declared.HandleText.{HandleText}
 use Rattle.form.specs.Content.{Value, form_value}
 use Rattle.client_registry.proofs.Clients.{redirect-most}
 use Rattle.client_registry.specs.Registry.{Client, fit_registry, clients_of}
 use Rattle.client_registry.specs.Lookup.{client_at}
-use Rattle.token_store.specs.Layout.{latest_time, time_size, slot_size, slot_count, store_size}
-use Rattle.token_store.specs.Store.{Store, is_token, origin_of, is_sought, is_live, free_slot, shows, sought_key, comes_from, without_tokens, concat, tabulate, slot_bytes, decode_slot, encode, decode, call_time}
-use Rattle.token_store.specs.declared.Sought.TheVariants.{Code, Spent, Token as sought_token}
+use Rattle.token_store.specs.Layout.{latest_time, time_size, store_size}
+use Rattle.token_store.specs.Store.{Store, is_sought, is_live, free_slot, shows, sought_key, encode, decode, call_time}
+use Rattle.token_store.specs.declared.Sought.TheVariants.{Code, Spent}
 use Rattle.token_store.proofs.Slots.{sought-used}
 use Rattle.token_store.proofs.Codec.{time-at, encode-later, encode-freed}
 use Rattle.token_store.proofs.Fits.{fit-size}
@@ -38,23 +38,20 @@ use Rattle.protocol.specs.declared.Input.TheVariants.{Buffers, Registry, Store a
 use Rattle.protocol.specs.declared.ErrorWord.TheVariants.{InvalidGrant}
 use Rattle.protocol.specs.declared.Refusal.{Refusal}
 use Rattle.protocol.specs.declared.Refusal.TheVariants.{Unfit, ErrorPage, Redirect, Token, Failed}
-use Rattle.protocol.specs.declared.Decision.{Decision}
-use Rattle.protocol.specs.declared.Decision.TheVariants.{Refuse}
-use Rattle.protocol.specs.Answers.{is_grant}
+use Rattle.protocol.specs.Answers.{is_grant, Decision}
 use Rattle.protocol.specs.Authorization.{query_client, location_text}
 use Rattle.protocol.specs.Revocation.{revocation_reply}
-use Rattle.protocol.specs.Granting.{first_handle, shown_slot, decision_on}
+use Rattle.protocol.specs.Granting.{first_handle, shown_slot, decision_on, is_issued_on, without_issued_on}
 use Rattle.protocol.specs.Outcomes.{unfit_reasons, Handed, Endpoint, Outcome, admit, outcome_by, outcome, serve_authorization, authorization_endpoint, reply_text, serve_token, token_endpoint, without_random, serve_revocation, revocation_endpoint, check_endpoint, clock_alone}
 use Rattle.protocol.proofs.Reasons.{stop, pass, first-counts, grant-every}
 use Rattle.history.specs.Calls.{Call, authorization, token, revocation, check, handed_to, WellTyped}
 use Rattle.history.specs.Server.{Answer, authorization_answer, token_answer, check_answer, answering, outcome_of, is_unfit, is_granted, length_of}
 use Rattle.history.specs.Contents.{value_of, code_shown}
-use Rattle.history.specs.Slots.{holds_token_from}
 use Rattle.history.specs.AnyStore.{is_unspent, is_shown_twice, without_tokens_from, after_refusal, buffers_unfit, inputs, is_fit_for, is_unfit_input, FirstUnfit, unfit_answer, unfit_outcome, decision_in, refusal_text, refusal_answer, with_clock, done, output, Demand1}
 use Rattle.history.proofs.SoundStores.{sound-fit, fit-sound}
 use Rattle.history.proofs.AnyCall.{outcome_on, asked, plan_on, unfit_to, is_past, TakenCall, unseen, seen, refused-unfit, take, seen-past, past-buffers, past-registry, past-store, left_by, store-on, fit_on, refused-left}
 use Rattle.history.proofs.Asking.{caller-is}
-use Rattle.history.proofs.SecondShowing.{is_again, denied-is, again-valid, again-refused}
+use Rattle.history.proofs.SecondShowing.{is_again, denied-is, again-refused}
 use Rattle.history.proofs.Written.{text_on, Written, written-within, written-sized, written-beyond, written_on, unfit-written}
 use Rattle.history.proofs.AllCalls.{brings, sound-left}
 
@@ -73,7 +70,7 @@ module _ (registry store : List ℕ) where
     abbrev admitted : Decision
     admitted = admit (unfit_to c) registry store (handed_to c).clock
 
-    first-refused : (i : Input) → FirstUnfit registry store c i → admitted ≡ Refuse (Unfit i)
+    first-refused : (i : Input) → FirstUnfit registry store c i → admitted ≡ Err (Unfit i)
     unfolding admit is_unfit_input
     first-refused Buffers u = first-counts (stop (same-buffers c ∙ u.unfit))
     first-refused Registry u = first-counts (pass (same-buffers c ∙ u.first Buffers (lit< tt)) (stop u.unfit))
@@ -99,13 +96,13 @@ module _ (registry store : List ℕ) where
         four false false false false = refl
 
   refused-at : {A : Type 0} (tag : A → Answer) (endpoint : Endpoint A) (handed : Handed) (i : Input)
-      → admit (endpoint.unfit handed) registry store handed.clock ≡ Refuse (Unfit i)
+      → admit (endpoint.unfit handed) registry store handed.clock ≡ Err (Unfit i)
       → answering tag (outcome endpoint registry store handed)
       ≡ record { answer = tag (endpoint.refuse (Unfit i)); output = handed.output; store = store }
   unfolding outcome outcome_by
   refused-at tag endpoint handed i e = ap (λ (d : Decision). answering tag (outcome_by endpoint registry store handed d)) e
 
-  unfit-done : (c : Call) (i : Input) → admitted c ≡ Refuse (Unfit i) → outcome_of registry store c ≡ unfit_outcome store c i
+  unfit-done : (c : Call) (i : Input) → admitted c ≡ Err (Unfit i) → outcome_of registry store c ≡ unfit_outcome store c i
   unfolding handed_to unfit_to unfit_answer outcome_of
   unfit-done (authorization query decision farm handed) i e = refused-at authorization_answer (authorization_endpoint query decision farm) handed i e
   unfit-done (token header body handed) i e = refused-at token_answer (token_endpoint header body) handed i e
@@ -116,7 +113,7 @@ module _ (registry store : List ℕ) where
 
 -- no text of a refusal has the handle
 handle-unused : (redirect : List ℕ) (state : Value) (handle : List ℕ) (r : Refusal)
-    → location_text redirect state handle (Refuse r) ≡ location_text redirect state [] (Refuse r)
+    → location_text redirect state handle (Err r) ≡ location_text redirect state [] (Err r)
 unfolding location_text
 handle-unused redirect state handle (Unfit i) = refl
 handle-unused redirect state handle (ErrorPage p) = refl
@@ -125,7 +122,7 @@ handle-unused redirect state handle (Token w) = refl
 handle-unused redirect state handle (Failed f) = refl
 
 module _ (clients : List Client) (g : Store) where
-  refused-on : (c : Call) (r : Refusal) → decision_in (outcome_on clients g c).answer ≡ Refuse r
+  refused-on : (c : Call) (r : Refusal) → decision_in (outcome_on clients g c).answer ≡ Err r
       → let text = refusal_text clients c r in
       let o = outcome_on clients g c in
       (o.answer ≡ refusal_answer c r (length text)) × (o.output ≡ sets (handed_to c).output 0 text)
@@ -140,7 +137,7 @@ module _ (clients : List Client) (g : Store) where
 -- ---- a code that is shown twice
 
 -- a spent code that is found is live before its expiry; what stands for none never is
-spent-live : (t : ℕ) (slots : List Slot) (p : HandleText) → let s = shown_slot Spent p slots in is_live t s ≡ ltb t s.expiry
+spent-live : (t : ℕ) (slots : List Slot) (p : Option (List ℕ)) → let s = shown_slot Spent p slots in is_live t s ≡ ltb t s.expiry
 unfolding free_slot
 spent-live t slots p = by-test (any key slots) found none
   where
@@ -176,8 +173,8 @@ module _ (clients : List Client) (store : List ℕ) where
   twice-again (check presented clock) = refl
 
   -- what is decided is what is answered, of a call that can be refused
-  twice-decided : (c : Call) → is_shown_twice clients store c ≡ true → decision_on (plan_on clients (decode store) c) ≡ Refuse (Token InvalidGrant)
-      → decision_in (outcome_on clients (decode store) c).answer ≡ Refuse (Token InvalidGrant)
+  twice-decided : (c : Call) → is_shown_twice clients store c ≡ true → decision_on (plan_on clients (decode store) c) ≡ Err (Token InvalidGrant)
+      → decision_in (outcome_on clients (decode store) c).answer ≡ Err (Token InvalidGrant)
   unfolding outcome_on serve_authorization serve_token serve_revocation decision_in asked handed_to is_shown_twice
   twice-decided (authorization query decision farm handed) twice e = e
   twice-decided (token header body handed) twice e = e
@@ -215,7 +212,7 @@ module _ (registry : List ℕ) (bytes : Bytes registry) (store : List ℕ) (stor
       by (unseen i n e) = rw (e, n) (refused-unfit c i)
       by (seen past e) = rw (e, past) (fit_on clients (decode store) c (brings registry bytes c typed store past))
 
-  refused-answers : (r : Refusal) → is_unfit (done registry store c).answer ≡ false → decision_in (done registry store c).answer ≡ Refuse r
+  refused-answers : (r : Refusal) → is_unfit (done registry store c).answer ≡ false → decision_in (done registry store c).answer ≡ Err r
       → let text = refusal_text clients c r in
       ((done registry store c).answer ≡ refusal_answer c r (length text)) × ((done registry store c).output ≡ sets (output registry store c) 0 text)
   refused-answers r fit e =
@@ -230,23 +227,16 @@ module _ (registry : List ℕ) (bytes : Bytes registry) (store : List ℕ) (stor
   -- the store that a refusal leaves, where a code is shown again and where not
   abbrev LeavesAs : Bool → Type 0
   LeavesAs again =
-      encode (record { time = t; slots = cond again (without_tokens sought_token (read_handle (code_shown c)).bytes slots) slots })
+      encode (record { time = t; slots = cond again (without_issued_on (read_handle (code_shown c)) slots) slots })
       ≡ with_clock (handed_to c).clock (cond again (without_tokens_from (code_shown c) store) store)
 
-  leaves-as : length store ≡ store_size → (again : Bool) → is_again clients t slots c ≡ again → LeavesAs again
+  leaves-as : length store ≡ store_size → (again : Bool) → LeavesAs again
   unfolding encode
-  leaves-as size true e =
-      let handle = (read_handle (code_shown c)).bytes in
+  leaves-as size true =
       let front : length (take_first time_size store) ≡ time_size = length-take-le time_size store (omega arith) in
-      let same_test : (slot : List ℕ) → comes_from sought_token handle (decode_slot slot) ≡ holds_token_from (code_shown c) slot =
-      λ slot. ap (λ (v : Bool). is_token (decode_slot slot) && (v && same handle (origin_of (decode_slot slot)))) (sym (again-valid clients t slots c e))
-      in
-      let freed =
-      encode-freed store size stored (comes_from sought_token handle)
-      ∙ ap (λ (k : List ℕ → Bool). concat (tabulate slot_count (λ i. cond (k (slot_bytes store i)) (replicate slot_size 0) (slot_bytes store i)))) (fun_ext same_test)
-      in
+      let freed = encode-freed store size stored (is_issued_on (read_handle (code_shown c))) in
       rw (freed, time-at store, take_at (take_first time_size store) _ time_size front, drop_at (take_first time_size store) _ time_size front)
-  leaves-as size false e = encode-later store size stored t ∙ rw (time-at store)
+  leaves-as size false = encode-later store size stored t ∙ rw (time-at store)
 
   refused-store : is_unfit (done registry store c).answer ≡ false → is_granted (done registry store c).answer ≡ false
       → (done registry store c).store ≡ with_clock (handed_to c).clock (after_refusal clients store c)
@@ -257,11 +247,11 @@ module _ (registry : List ℕ) (bytes : Bytes registry) (store : List ℕ) (stor
       ap (λ (o : Outcome Answer). o.store) p.1
       ∙ store-on clients (decode store) c
       ∙ ap (λ (l : List Slot). encode (record { time = t; slots = l })) left
-      ∙ leaves-as size (is_again clients t slots c) refl
+      ∙ leaves-as size (is_again clients t slots c)
       ∙ ap (λ (b : Bool). with_clock (handed_to c).clock (cond b (without_tokens_from (code_shown c) store) store)) (sym (twice-again clients store c))
 
   twice-refused : is_unfit (done registry store c).answer ≡ false → is_shown_twice clients store c ≡ true
-      → decision_in (done registry store c).answer ≡ Refuse (Token InvalidGrant)
+      → decision_in (done registry store c).answer ≡ Err (Token InvalidGrant)
   twice-refused fit twice =
       rw (seen-past registry store c fit).1 (twice-decided clients store c twice (again-refused clients t slots (handed_to c).random c (sym (twice-again clients store c) ∙ twice)))
 

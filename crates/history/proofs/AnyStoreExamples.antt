@@ -15,21 +15,21 @@ use Rattle.octets.specs.Search.{any, keep}
 use Rattle.octets.proofs.Lists.{zero-bytes}
 use Rattle.octets.specs.BigEndian.{big_endian_from, big_endian_bytes}
 use Rattle.encoding.specs.Hex.{hex_text, hex_digit, hex_value, read_handle, is_handle_text, unhex}
-use Rattle.client_registry.specs.Registry.{sound_text, sound_id, sound_redirect, sound_secret, sound_field, sound_common, sound_public, sound_confidential, sound_record, record_size, records_behind, sound_records, clients_of, distinct, fit_registry}
-use Rattle.client_registry.specs.Sample.{record_of, registry_of, sample_confidential, sample_public, sample_clients, sample_registry}
+use Rattle.client_registry.specs.Registry.{clients_of}
+use Rattle.client_registry.specs.Sample.{sample_registry}
 use Rattle.token_store.specs.Layout.{store_size}
 use Rattle.token_store.specs.Store.{fresh}
 use Rattle.token_store.specs.Fit.{fit_store}
 use Rattle.token_store.specs.declared.Slot.{Slot}
 use Rattle.protocol.specs.declared.Input.{Input}
 use Rattle.protocol.specs.declared.Input.TheVariants.{Buffers, Registry, Store, Clock}
-use Rattle.protocol.specs.declared.Decision.{Decision}
-use Rattle.protocol.specs.declared.Decision.TheVariants.{Grant, Refuse}
 use Rattle.protocol.specs.declared.CheckAnswer.{CheckAnswer}
 use Rattle.protocol.specs.declared.CheckAnswer.TheVariants.{Refused, NotLive, Live}
 use Rattle.protocol.specs.Answers.{input_number, refusal_number}
 use Rattle.protocol.specs.Refusals.{first_of}
 use Rattle.protocol.specs.Outcomes.{Handed, admit, outcome_by, outcome}
+use Rattle.protocol.proofs.Computing.{registry_definitions}
+use Rattle.protocol.proofs.Cases.{refusal_of}
 use Rattle.history.specs.Calls.{Call, authorization, token, check, handed_to, fresh_store}
 use Rattle.history.specs.Server.{Answer, authorization_answer, token_answer, check_answer, outcome_of, is_granted, length_of, ours}
 use Rattle.history.specs.AnyStore.{is_unspent, buffers_unfit, inputs, is_unfit_input, unfit_outcome, is_shown_twice, Demand1}
@@ -65,18 +65,14 @@ cases =
     ∷ record { registry = sample_registry; store = 5 ∷ []; call = check [] (2 ^ 40 + 1); paper = 3 }
     ∷ []
 
-unfoldable pub number_on : Decision → ℕ
-number_on Grant = 0
-number_on (Refuse r) = refusal_number r
-
 unfoldable pub number_at : CheckAnswer → ℕ
 number_at (Refused r) = refusal_number r
 number_at NotLive = 0
 number_at (Live l) = 0
 
 unfoldable pub number_in : Answer → ℕ
-number_in (authorization_answer a) = number_on a.decision
-number_in (token_answer a) = number_on a.decision
+number_in (authorization_answer a) = refusal_of a.decision
+number_in (token_answer a) = refusal_of a.decision
 number_in (check_answer a) = number_at a
 
 -- the server answers the number alone, and leaves output and store
@@ -97,7 +93,7 @@ unfoldable pub claimed : Case → Bool
 claimed k = eqb (first_of_these k inputs) k.paper
 
 pub unfit-as-told : every (λ k. served k && claimed k) cases ≡ true
-unfolding cases handing served claimed first_of_these number_in number_on number_at outcome_of outcome outcome_by admit first_of handed_to length_of buffers_unfit is_unfit_input fit_store fit_registry distinct sound_records records_behind record_size sound_record sound_confidential sound_public sound_common sound_field sound_secret sound_redirect sound_id sound_text every same sample_registry sample_clients sample_public sample_confidential registry_of record_of
+unfolding registry_definitions cases handing served claimed first_of_these number_in number_at outcome_of outcome outcome_by admit first_of handed_to length_of buffers_unfit is_unfit_input fit_store every same
 unfit-as-told = refl
 
 -- ---- unspent codes

@@ -7,6 +7,7 @@ use mathlib.Core.Path.{◌≡◌, refl, sym}
 use mathlib.Core.Bool.{Bool, true, false, not, ◌&&◌}
 use mathlib.Core.List.{List, [], ◌∷◌}
 use Prim.Native.Nat.{ℕ}
+use Rattle.std.specs.Prelude.{Ok, Err, None}
 use native.Mathlib.Omega.{arith}
 use borrow.Author.Tests.{ne_eqb, not-true}
 use lib.ListN.{length}
@@ -21,16 +22,14 @@ use Rattle.client_registry.specs.Lookup.{client_at}
 use Rattle.protocol.specs.declared.ErrorWord.TheVariants.{InvalidRequest}
 use Rattle.protocol.specs.declared.Refusal.{Refusal}
 use Rattle.protocol.specs.declared.Refusal.TheVariants.{Token}
-use Rattle.protocol.specs.declared.Decision.{Decision}
-use Rattle.protocol.specs.declared.Decision.TheVariants.{Grant, Refuse}
 use Rattle.protocol.specs.declared.ExchangeRequest.{ExchangeRequest}
 use Rattle.protocol.specs.declared.RefreshRequest.{RefreshRequest}
 use Rattle.protocol.specs.declared.CredentialsRequest.{CredentialsRequest}
 use Rattle.protocol.specs.declared.Request.TheVariants.{Exchange, Refresh, Credentials, Revocation}
 use Rattle.protocol.specs.declared.Reading.{Reading}
-use Rattle.protocol.specs.Answers.{is_grant}
+use Rattle.protocol.specs.Answers.{is_grant, Decision}
 use Rattle.protocol.specs.Refusals.{when, first_of}
-use Rattle.protocol.specs.Requests.{scope_asked, no_challenge, presenting_none, refused_reading, unless_refused}
+use Rattle.protocol.specs.Requests.{scope_asked, presenting_none, refused_reading, unless_refused}
 use Rattle.protocol.specs.Authorization.{scope_for}
 use Rattle.protocol.specs.ClientForms.{is_invalid_form, is_invalid_client, presented_id, header_id, credentials, call_client, form_reasons}
 use Rattle.protocol.specs.Token.{token_names, challenge_answered, read_exchange, read_refresh, read_credentials, read_grant, read_token}
@@ -65,7 +64,7 @@ module _ (clients : List Client) (header body : List ℕ) where
   refresh_reading = record {
     request = Refresh refresh_asked;
     presented = read_handle (value_of body (bytes "refresh_token"));
-    challenge = no_challenge;
+    challenge = None;
   }
 
   abbrev pub credentials_asked : CredentialsRequest
@@ -78,7 +77,7 @@ module _ (clients : List Client) (header body : List ℕ) where
   revocation_reading = record {
     request = Revocation (record { client = call_client clients header body });
     presented = read_handle (value_of body (bytes "token"));
-    challenge = no_challenge;
+    challenge = None;
   }
 
   pub data ReadAs (reading : Reading) : Type 0 where
@@ -89,8 +88,8 @@ module _ (clients : List Client) (header body : List ℕ) where
 
   unless-read : (d : Decision) (x : Reading) → ReadAs x → ReadAs (unless_refused d x)
   unfolding unless_refused
-  unless-read Grant x p = p
-  unless-read (Refuse r) x p = refused_as r refl
+  unless-read (Ok tt) x p = p
+  unless-read (Err r) x p = refused_as r refl
 
   pub token-read : ReadAs (read_token clients header body)
   unfolding read_token read_grant read_exchange read_refresh read_credentials

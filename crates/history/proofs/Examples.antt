@@ -9,48 +9,36 @@ use mathlib.Core.Path.{◌≡◌, refl, ap, fun_ext}
 use mathlib.Core.Bool.{Bool, true, false, cond, ◌&&◌, ◌||◌, beq, and-true}
 use mathlib.Core.List.{List, [], ◌∷◌, ◌++◌, map}
 use Prim.Native.Nat.{ℕ, ◌+◌, ◌*◌, ◌-◌, ◌^◌, max}
+use Rattle.std.specs.Prelude.{Ok, Err}
 use lib.Dec.{leb, ltb}
 use lib.ListN.{length, replicate, drop}
 use Rattle.octets.specs.Text.{bytes}
-use Rattle.octets.specs.BigEndian.{big_endian_bytes, big_endian_from}
-use Rattle.octets.specs.Lists.{part, every, same, index_of, split_on, grow}
-use Rattle.octets.specs.Search.{index_where, count, any, first_or, replace_first, replace_all, keep}
+use Rattle.octets.specs.BigEndian.{big_endian_from}
+use Rattle.octets.specs.Lists.{part, every}
+use Rattle.octets.specs.Search.{any, keep}
 use Rattle.octets.proofs.Lists.{same_refl}
-use Rattle.encoding.specs.Hex.{hex_text, hex_digit, hex_value, read_handle, is_handle_text, unhex}
-use Rattle.encoding.specs.Base64.{url, read_digest, is_digest_text, base64_text, digit64, is_base64, base64_bytes, group_bytes, sound_group, sextet, none}
-use Rattle.sha256.specs.Functions.{rotr, ch, maj, big_sigma, small_sigma}
-use Rattle.sha256.specs.Constants.{round_constants, initial_hash}
-use Rattle.sha256.specs.Digest.{padding, padded_message, block_words, schedule_word, next_word, extended, schedule, first_sum, second_sum, round, rounds, added, compressed, hashed, words_bytes, state_bytes, digest}
-use Rattle.form_coding.specs.Coding.{decode_after, first_byte, extra, is_escape, plain, well_formed, sound, encode, encode_byte}
-use Rattle.form.specs.Content.{Value, missing, once, is_well_formed_form, piece_name, piece_value, gives, add, value_in, form_value, is_missing, is_repeated, only_value, is_once}
-use Rattle.scope.specs.Set.{names}
-use Rattle.scope.specs.Value.{bit_from, bit_of, union, read_scope, chosen, spaced, scope_text}
+use Rattle.encoding.specs.Base64.{url, base64_text, digit64}
+use Rattle.sha256.specs.Digest.{digest}
+use Rattle.form.specs.Content.{Value, missing, once}
 use Rattle.client_registry.specs.Registry.{distinct}
-use Rattle.client_registry.specs.Sample.{sample_confidential, sample_public, sample_clients}
+use Rattle.client_registry.specs.Sample.{sample_clients}
 use Rattle.token_store.specs.Layout.{slot_count}
-use Rattle.token_store.specs.Store.{encode as encode_store, encode_slot, decode_slot, concat, cut, Store, kind_bound_code, kind_access, kind_refresh, free_slot, fresh}
+use Rattle.token_store.specs.Store.{encode as encode_store, decode_slot, cut, Store, kind_bound_code, kind_access, kind_refresh, free_slot, fresh}
 use Rattle.token_store.specs.declared.Slot.{Slot}
 use Rattle.protocol.specs.declared.Failure.TheVariants.{NoRoom}
 use Rattle.protocol.specs.declared.Refusal.TheVariants.{Failed}
-use Rattle.protocol.specs.declared.Decision.{Decision}
-use Rattle.protocol.specs.declared.Decision.TheVariants.{Grant, Refuse}
-use Rattle.protocol.specs.Answers.{is_grant, word_text}
-use Rattle.protocol.specs.Refusals.{first_of}
-use Rattle.protocol.specs.Requests.{asked_by, scope_asked, fits, scope_given, unless_refused}
-use Rattle.protocol.specs.Authorization.{challenge_given, is_bad_challenge, is_bad_query, query_client, is_bad_client, is_bad_redirect, is_sound_state, is_bad_state, is_invalid_request, is_other_type, is_invalid_scope, code_asked, page_reasons, redirect_reasons, read_authorization, separator, state_text, location, code_parameter, error_parameter, location_text}
-use Rattle.protocol.specs.ClientForms.{is_invalid_form, lower_case, same_any_case, credentials, is_bad_header, header_id, header_secret, presented_id, presented_secret, is_unclear_id, is_impostor, call_client, is_invalid_client, form_reasons}
-use Rattle.protocol.specs.Token.{challenge_answered, is_sound_verifier, read_exchange, read_refresh, read_credentials, read_grant, read_token, error_reply, refusal_reply, token_reply, refresh_member}
-use Rattle.protocol.specs.Revocation.{read_revocation, revocation_reply}
-use Rattle.protocol.specs.Granting.{refused_plan, code_plan, exchange_plan, refresh_plan, credentials_plan, revocation_plan, plan_for, plan_of, decision_on, slots_by, check_slots}
-use Rattle.protocol.specs.Outcomes.{Handed, serve_authorization, reply_text, serve_token, serve_revocation, serve_check}
+use Rattle.protocol.specs.Answers.{Decision}
+use Rattle.protocol.specs.Token.{read_token}
+use Rattle.protocol.specs.Granting.{plan_of, decision_on}
+use Rattle.protocol.specs.Outcomes.{Handed}
+use Rattle.protocol.proofs.Computing.{text_definitions, registry_definitions, slot_definitions, digest_definitions, endpoint_definitions}
 use Rattle.protocol.proofs.Cases.{challenge, challenging}
 use Rattle.protocol.proofs.Starred.{count_up, rfc_query}
-use Rattle.history.specs.Calls.{Call, authorization, token, revocation, check, handed_to, Result}
-use Rattle.history.specs.Contents.{Sort, code, access, refresh, Issue, no_issue, is_exchange, is_refresh, is_credentials, none_beyond, is_within_granted, names_or, asked_or, id_in, is_admitted, is_admitted_to_revoke, code_issue, exchange_issues, refresh_issues, own_issue, issued_by, is_spent_by, as_spent, is_second_showing, code_shown, is_withdrawn_by, is_revoked_by, standing_after, Contents, nothing_yet, with_event, with_events, twenties}
+use Rattle.history.specs.Calls.{Call, authorization, token, revocation, check, Result}
+use Rattle.history.specs.Contents.{Sort, code, access, refresh, Issue, is_exchange, is_refresh, is_credentials, is_admitted, is_admitted_to_revoke, issued_by, as_spent, Contents, nothing_yet, with_events, twenties}
 use Rattle.history.specs.Slots.{slots_in_all, holds_token_from}
-use Rattle.history.specs.Claim.{is_repeated_by, is_unreserved, is_answered_by, verifies, is_verifier_for, may_exchange, may_refresh, may_have_own, may_revoke, is_cleared, may_pass}
-use Rattle.history.specs.Server.{is_unfit_refusal, is_unfit_decision, is_unfit_check, is_unfit, is_granted, length_of, is_live_check, named_by, is_passed, named_in}
-use Rattle.history.proofs.AnyCall.{outcome_on, asked, unfit_to}
+use Rattle.history.specs.Claim.{is_unreserved, is_answered_by, verifies, is_verifier_for, may_exchange, may_refresh, may_have_own, may_revoke, is_cleared, may_pass}
+use Rattle.history.proofs.Computing.{claim_definitions, server_definitions}
 use Rattle.history.proofs.CallsOnRecords.{result_on, left_by_all, events_on, is_fitting}
 
 -- ---- the calls
@@ -246,6 +234,11 @@ barn_leak = barn_visit ++ token_at [] barn_body 1100 0x20 ∷ token_at [] (barn_
 -- the visit's code, with a challenge
 unfoldable pub challenged_visit : List Call
 challenged_visit = authorization (rfc_query ++ challenging) 1 7 (handed_at 1000 20 0) ∷ []
+
+-- what the calls are made of
+unfoldable pub call_definitions : Unit {0}
+unfolding rfc_query handed_at authorize_at header exchange_of repeating by_barnapp token_at code_text access_text refresh_text exchange_at refresh_for visit night challenge_text verifier other_verifier verifying barn_query less_query barn_text barn_try barn_body again_text less_text own_for own_text less_own_text day showing_by leak late_showing strangers impostors revoke_at revoking barn_revoking farewell one_less nothing_revoked pumps barn_visit guesses barn_leak challenged_visit
+call_definitions = tt
 
 -- ---- the cases
 
@@ -702,22 +695,22 @@ pub record Computed : Type 0 where
   pub room-asked : may_beside 2 ++ may_beside 1 ++ may_beside 0
       ≡ true ∷ true ∷ true ∷ false ∷ true ∷ true ∷ false ∷ false ∷ false ∷ []
   pub room-found : done_beside 2 ++ done_beside 1 ++ done_beside 0
-      ≡ Grant
-      ∷ Grant
-      ∷ Grant
-      ∷ Refuse (Failed NoRoom)
-      ∷ Grant
-      ∷ Grant
-      ∷ Refuse (Failed NoRoom)
-      ∷ Refuse (Failed NoRoom)
-      ∷ Refuse (Failed NoRoom)
+      ≡ Ok tt
+      ∷ Ok tt
+      ∷ Ok tt
+      ∷ Err (Failed NoRoom)
+      ∷ Ok tt
+      ∷ Ok tt
+      ∷ Err (Failed NoRoom)
+      ∷ Err (Failed NoRoom)
+      ∷ Err (Failed NoRoom)
       ∷ []
   -- a spent code takes room until it runs out
   pub room-of-spent : may_beside_spent 1001 2 ∷ may_beside_spent 1001 1 ∷ may_beside_spent 1599 1 ∷ may_beside_spent 1600 1 ∷ []
       ≡ true ∷ false ∷ false ∷ true ∷ []
 
 pub computed : Computed
-unfolding exchange_visit in_exchange_visit gone revoke_at revoking barn_revoking farewell one_less nothing_revoked in_farewell is_answered_by verifies is_verifier_for challenge_given is_bad_challenge read_digest is_digest_text challenge_answered is_sound_verifier base64_text digit64 challenge_text verifier other_verifier barn_try verifying barn_visit guesses barn_leak challenged_visit rotr ch maj big_sigma small_sigma round_constants initial_hash padding padded_message block_words schedule_word next_word extended schedule first_sum second_sum round rounds added compressed hashed words_bytes state_bytes digest showing_by leak late_showing strangers impostors in_leak may_beside_spent own_for own_text less_own_text pumps own_until in_pumps encode_store encode_slot concat big_endian_bytes decode_slot cut big_endian_from redirect code_until token_until barn_code in_visit in_day barn_body evening barn_token barn_access in_evening beside may_beside slot_until decided_beside done_beside yields may is_typed is_asked is_judged left_in contained_in claim_agrees agrees_on agrees cases day visit night handed_at authorize_at header exchange_of repeating by_barnapp token_at code_text access_text refresh_text exchange_at refresh_for barn_query less_query barn_text again_text less_text rfc_query handed_to asked outcome_on unfit_to left_by_all events_on is_fitting is_unfit_refusal is_unfit_decision is_unfit_check is_unfit is_granted length_of is_live_check named_by is_passed named_in no_issue none_beyond is_within_granted names_or asked_or code_issue exchange_issues refresh_issues own_issue issued_by is_spent_by is_second_showing code_shown is_withdrawn_by is_revoked_by standing_after with_event with_events twenties id_in is_admitted is_admitted_to_revoke is_repeated_by may_exchange may_refresh may_have_own may_revoke may_pass distinct keep count any first_or replace_first replace_all free_slot fresh every same index_of split_on grow hex_text hex_digit hex_value read_handle is_handle_text unhex is_base64 base64_bytes group_bytes sound_group sextet none decode_after first_byte extra is_escape plain well_formed sound encode encode_byte is_well_formed_form piece_name piece_value gives add value_in form_value names bit_from bit_of union read_scope chosen spaced scope_text index_where sample_clients sample_confidential sample_public is_grant word_text is_missing is_repeated only_value is_once asked_by scope_asked fits scope_given is_bad_query query_client is_bad_client is_bad_redirect is_sound_state is_bad_state is_invalid_request is_other_type is_invalid_scope code_asked page_reasons redirect_reasons read_authorization separator state_text location code_parameter error_parameter location_text is_invalid_form lower_case same_any_case credentials is_bad_header header_id header_secret presented_id presented_secret is_unclear_id is_impostor call_client is_invalid_client form_reasons read_exchange read_refresh read_credentials read_grant read_token error_reply refusal_reply token_reply refresh_member first_of unless_refused refused_plan code_plan exchange_plan refresh_plan credentials_plan read_revocation revocation_reply revocation_plan plan_for slots_by check_slots serve_authorization reply_text serve_token serve_revocation serve_check
+unfolding text_definitions registry_definitions slot_definitions digest_definitions endpoint_definitions claim_definitions server_definitions call_definitions exchange_visit in_exchange_visit gone in_farewell base64_text digit64 in_leak may_beside_spent own_until in_pumps encode_store decode_slot cut big_endian_from redirect code_until token_until barn_code in_visit in_day evening barn_token barn_access in_evening beside may_beside slot_until decided_beside done_beside yields may is_typed is_asked is_judged left_in contained_in claim_agrees agrees_on agrees cases keep fresh
 computed = record {
   cases-agree = refl;
   visit-contains = refl;

@@ -17,16 +17,16 @@ use lib.Seq.{take_at}
 use Rattle.octets.specs.Lists.{same, Bytes}
 use Rattle.octets.proofs.Booleans.{by-test}
 use Rattle.octets.proofs.Lists.{same_refl, same-eq, zero-bytes}
-use Rattle.encoding.specs.Hex.{hex_text, read_handle}
+use Rattle.encoding.specs.Hex.{hex_text, read_handle, presents}
 use Rattle.encoding.specs.Base64.{url, base64_text}
 use Rattle.encoding.proofs.Hex.{same-handle}
 use Rattle.form.specs.Content.{Value, missing, once, is_once}
 use Rattle.client_registry.specs.Registry.{Client}
 use Rattle.client_registry.specs.Lookup.{client_at}
-use Rattle.protocol.specs.Granting.{is_unverified}
+use Rattle.protocol.specs.Granting.{is_unverified, is_issued_on}
 use Rattle.protocol.specs.Token.{challenge_answered}
 use Rattle.token_store.specs.Layout.{handle_size}
-use Rattle.token_store.specs.Store.{code_kind, kind_access, kind_refresh, kind_spent, no_link, link_to, origin_of, spent_code, is_used, is_bound_code, is_sought, is_live, shows, sought_key, comes_from}
+use Rattle.token_store.specs.Store.{code_kind, kind_access, kind_refresh, kind_spent, no_link, link_to, origin_of, spent_code, is_used, is_bound_code, is_sought, is_live, shows, sought_key}
 use Rattle.token_store.specs.declared.Slot.{Slot}
 use Rattle.token_store.specs.declared.Sought.{Sought}
 use Rattle.token_store.specs.declared.Sought.TheVariants.{Code, Spent, Access, Refresh, Token}
@@ -191,21 +191,20 @@ module _ (clients : List Client) where
   token-key text e = ap₂ ◌&&◌ (issue-token e) (issue-of text e)
 
   -- the origin of a token is the code of a text
-  origin-of : (text : List ℕ) (e : Held) → (read_handle text).valid ≡ true → is_sought Token (as_slot e) ≡ true
-      → same text (as_issue clients e).origin ≡ same (read_handle text).bytes (origin_of (as_slot e))
-  origin-of text e valid is =
-      same-handle text e.origin.octets e.origin.size e.origin.small
-      ∙ rw valid (ap (same (read_handle text).bytes) (sym (token-origin e is)))
+  origin-of : (text : List ℕ) (e : Held) → is_sought Token (as_slot e) ≡ true
+      → same text (as_issue clients e).origin ≡ presents (read_handle text) (origin_of (as_slot e))
+  origin-of text e is =
+      same-handle text e.origin.octets e.origin.size e.origin.small ∙ ap (presents (read_handle text)) (sym (token-origin e is))
 
   -- a token from the code of a text; and an access token
-  pub issue-from : (text : List ℕ) (e : Held) → (read_handle text).valid ≡ true
-      → is_token_from text (as_issue clients e) ≡ comes_from Token (read_handle text).bytes (as_slot e)
-  issue-from text e valid = and-agree (issue-token e) (origin-of text e valid)
+  pub issue-from : (text : List ℕ) (e : Held) → is_token_from text (as_issue clients e) ≡ is_issued_on (read_handle text) (as_slot e)
+  issue-from text e = and-agree (issue-token e) (origin-of text e)
 
-  pub access-from : (text : List ℕ) (e : Held) → (read_handle text).valid ≡ true
-      → (is_a access (as_issue clients e) && same text (as_issue clients e).origin) ≡ comes_from Access (read_handle text).bytes (as_slot e)
-  access-from text e valid =
-      and-agree (issue-sort access e) (λ is. origin-of text e valid (ap (λ (b : Bool). b || is_sought Refresh (as_slot e)) is))
+  pub access-from : (text : List ℕ) (e : Held)
+      → (is_a access (as_issue clients e) && same text (as_issue clients e).origin)
+      ≡ (is_sought Access (as_slot e) && presents (read_handle text) (origin_of (as_slot e)))
+  access-from text e =
+      and-agree (issue-sort access e) (λ is. origin-of text e (ap (λ (b : Bool). b || is_sought Refresh (as_slot e)) is))
 
   -- for client n, an address that was given is repeated where the client's is
   given-again : (n : ℕ) (given : Value) (e : Held) (bound : Bool)
@@ -234,18 +233,16 @@ module _ (clients : List Client) where
           && (eqb x.client n && (not (is_bound_code (as_slot x)) || is_once (client_at clients n).redirect given)
           && not (is_unverified (challenge_answered verifier) (as_slot x))))
 
-      given-answered : (c : Bool) → let answered = challenge_answered verifier in
-          is_answered_by (cond c (once (base64_text url e.challenge.octets)) missing) verifier
-          ≡ not (c && not (answered.valid && same answered.bytes e.challenge.octets))
+      given-answered : (c : Bool) → is_answered_by (cond c (once (base64_text url e.challenge.octets)) missing) verifier
+          ≡ not (c && not (presents (challenge_answered verifier) e.challenge.octets))
       given-answered true = answered-is e.challenge verifier ∙ sym (not-not _)
       given-answered false = refl
 
       both : (b c : Bool) → let i = as_issue clients (turned e code b c) in
-          let answered = challenge_answered verifier in
           (is_of text i && (eqb e.client n && is_repeated_by i.address given && is_answered_by i.challenge verifier))
           ≡ (shows (read_handle text) (as_slot e)
           && (eqb e.client n && (not b || is_once (client_at clients n).redirect given)
-          && not (c && not (answered.valid && same answered.bytes e.challenge.octets))))
+          && not (c && not (presents (challenge_answered verifier) e.challenge.octets))))
       both b c = ap₂ ◌&&◌ (issue-of text e) (ap₂ ◌&&◌ (given-again n given e b) (given-answered c))
 
 -- what stands where nothing was issued: it is never live

@@ -11,6 +11,7 @@ use mathlib.Core.Path.{◌≡◌, refl, sym, ap, ap₂, ◌∙◌}
 use mathlib.Core.Bool.{Bool, true, false, cond, not, ◌&&◌, false≢true, and_assoc, and-true, and-false}
 use mathlib.Core.List.{List, [], ◌∷◌, map, Memᴰ}
 use Prim.Native.Nat.{ℕ, ◌+◌, ◌≤◌}
+use Rattle.std.specs.Prelude.{None, Option, unwrap_or, Some}
 use native.Mathlib.Nat.{zero-add}
 use native.Mathlib.Omega.{arith}
 use borrow.Author.Tests.{ltb-true, lt-ltb, le-ltb, not-true}
@@ -18,7 +19,6 @@ use lib.Dec.{eqb, ltb}
 use lib.ListN.{length, replicate, length-replicate, length-map}
 use Rattle.octets.specs.Lists.{same}
 use Rattle.octets.proofs.Booleans.{by-test, and-swap, and_left, and_right}
-use Rattle.encoding.specs.declared.HandleText.{HandleText}
 use Rattle.token_store.specs.Layout.{slot_count}
 use Rattle.octets.specs.Search.{bit, count, any, first_or, replace_all, keep}
 use Rattle.token_store.specs.Store.{issue, is_used, is_live, is_vacant, is_sought, holds, shows, sought_key, free_slot, kind_spent, spent_code}
@@ -33,16 +33,23 @@ use Rattle.history.proofs.HeldIssues.{Held, as_slot, spent_held, spent-slot, non
 
 -- ---- a look-up
 
--- a text that is no handle's shows no slot
-pub none-shown : (q : Sought) (p : HandleText) (slots : List Slot) → p.valid ≡ false → shown_slot q p slots ≡ free_slot
+-- where no handle is presented no slot is shown
+pub none-shown : (q : Sought) (slots : List Slot) → shown_slot q None slots ≡ free_slot
 unfolding first_or
-none-shown q p [] e = refl
-none-shown q p (s ∷ slots) e =
-    let none : sought_key q p s ≡ false = ap (λ (v : Bool). is_sought q s && (v && same p.bytes s.handle)) e ∙ and-false (is_sought q s) in
-    ap (λ (b : Bool). cond b s (shown_slot q p slots)) none ∙ none-shown q p slots e
+none-shown q [] = refl
+none-shown q (s ∷ slots) = rw (and-false (is_sought q s)) (none-shown q slots)
+
+-- the handle that is presented, and no bytes where none is
+abbrev bytes_of : Option (List ℕ) → List ℕ
+bytes_of p = unwrap_or p []
+
+-- a slot that is shown has that handle
+shown-holds : (q : Sought) (p : Option (List ℕ)) (s : Slot) → sought_key q p s ≡ true → holds (bytes_of p) s ≡ true
+shown-holds q (Some h) s e = key-holds q h s e
+shown-holds q None s e = absurd (false≢true (sym (and-false (is_sought q s)) ∙ e))
 
 -- what is found live was sought
-pub shown-key : (t : ℕ) (slots : List Slot) (q : Sought) (p : HandleText) → is_live t (shown_slot q p slots) ≡ true
+pub shown-key : (t : ℕ) (slots : List Slot) (q : Sought) (p : Option (List ℕ)) → is_live t (shown_slot q p slots) ≡ true
     → sought_key q p (shown_slot q p slots) ≡ true
 shown-key t slots q p live = by (any (sought_key q p) slots) refl
   where
@@ -51,7 +58,7 @@ shown-key t slots q p live = by (any (sought_key q p) slots) refl
     by false e = absurd (false≢true (sym (free-dead t) ∙ ap (is_live t) (sym (first_or-none (sought_key q p) free_slot slots e)) ∙ live))
 
 -- the thing issued that is presented, among those that stand
-abbrev pub origin_held : Sought → HandleText → List Held → Held
+abbrev pub origin_held : Sought → Option (List ℕ) → List Held → Held
 origin_held q p standing = first_or none_held (λ e. sought_key q p (as_slot e)) standing
 
 -- ---- the invariant
@@ -84,7 +91,7 @@ live-later t u x c h = by (ltb u x) refl
 
 -- ---- a code that is presented is spent
 
-module _ (p : HandleText) where
+module _ (p : Option (List ℕ)) where
   abbrev pub spend_slot : Slot → Slot
   spend_slot s = cond (sought_key Code p s) (spent_code s) s
 
@@ -188,7 +195,7 @@ module _ {t : ℕ} {slots : List Slot} {standing : List Held} {seen : List (List
 
   -- ---- the codes that are presented are spent
 
-  invariant-spend : (p : HandleText) → Invariant t (map (spend_slot p) slots) (map (spend_held p) standing) seen
+  invariant-spend : (p : Option (List ℕ)) → Invariant t (map (spend_slot p) slots) (map (spend_held p) standing) seen
   invariant-spend p = record {
     size = length-map slots (spend_slot p) ∙ v.size;
     bag = λ q.
@@ -223,26 +230,26 @@ module _ {t : ℕ} {slots : List Slot} {standing : List Held} {seen : List (List
 
   -- ---- a look-up, where no random bytes came twice
 
-  module _ (once : NeverTwice seen) (q : Sought) (p : HandleText) where
+  module _ (once : NeverTwice seen) (q : Sought) (p : Option (List ℕ)) where
     abbrev key : Slot → Bool
     key = sought_key q p
 
     abbrev slot : Slot
     slot = shown_slot q p slots
 
-    taken : (s : Slot) → bit (key s) ≤ bit (holds p.bytes s)
-    taken s = bit-implies (key s) (holds p.bytes s) (key-holds q p s)
+    taken : (s : Slot) → bit (key s) ≤ bit (holds (bytes_of p) s)
+    taken s = bit-implies (key s) (holds (bytes_of p) s) (shown-holds q p s)
 
     pub one-slot : count key slots ≤ 1
-    one-slot = omega (arith, count-le key (holds p.bytes) slots taken, v.in_slots p.bytes, once p.bytes)
+    one-slot = omega (arith, count-le key (holds (bytes_of p)) slots taken, v.in_slots (bytes_of p), once (bytes_of p))
 
     one-issue : count (λ e. key (as_slot e)) standing ≤ 1
     one-issue =
         omega (
           arith,
-          count-le (λ e. key (as_slot e)) (λ e. holds p.bytes (as_slot e)) standing (λ e. taken (as_slot e)),
-          v.in_issues p.bytes,
-          once p.bytes,
+          count-le (λ e. key (as_slot e)) (λ e. holds (bytes_of p) (as_slot e)) standing (λ e. taken (as_slot e)),
+          v.in_issues (bytes_of p),
+          once (bytes_of p),
         )
 
     -- the live issues that it takes are counted by the slot that it finds
@@ -287,7 +294,7 @@ module _ {t : ℕ} {slots : List Slot} {standing : List Held} {seen : List (List
 
   -- ---- the code that is presented is spent, or was
 
-  module _ (once : NeverTwice seen) (p : HandleText) where
+  module _ (once : NeverTwice seen) (p : Option (List ℕ)) where
     -- the one code that is found is spent
     each : with_spent p slots ≡ map (spend_slot p) slots
     each = replace_first-map spent_code (sought_key Code p) free_slot slots (one-slot once Code p)
@@ -310,19 +317,19 @@ module _ {t : ℕ} {slots : List Slot} {standing : List Held} {seen : List (List
       abbrev live : Slot → Bool
       live s = is_live t s && (sought_key Spent p s && own s)
 
-      apart : (s : Slot) → bit (sought_key Code p s) + bit (live s) ≤ bit (holds p.bytes s)
+      apart : (s : Slot) → bit (sought_key Code p s) + bit (live s) ≤ bit (holds (bytes_of p) s)
       apart s = by-test (sought_key Code p s) unspent-one other
         where
-          unspent-one : sought_key Code p s ≡ true → bit (sought_key Code p s) + bit (live s) ≤ bit (holds p.bytes s)
+          unspent-one : sought_key Code p s ≡ true → bit (sought_key Code p s) + bit (live s) ≤ bit (holds (bytes_of p) s)
           unspent-one k =
               let none = code-fails (λ kind. eqb kind kind_spent) refl refl refl refl s (and_left (is_sought Code s) (shows p s) k) in
-              rw (k, key-holds Code p s k, none, and-false (is_live t s)) (omega arith)
+              rw (k, shown-holds Code p s k, none, and-false (is_live t s)) (omega arith)
 
-          other : sought_key Code p s ≡ false → bit (sought_key Code p s) + bit (live s) ≤ bit (holds p.bytes s)
+          other : sought_key Code p s ≡ false → bit (sought_key Code p s) + bit (live s) ≤ bit (holds (bytes_of p) s)
           other k =
               simp (zero-add, k)
-              (bit-implies (live s) (holds p.bytes s)
-              (λ l. key-holds Spent p s (and_left (sought_key Spent p s) (own s) (and_right (is_live t s) (sought_key Spent p s && own s) l))))
+              (bit-implies (live s) (holds (bytes_of p) s)
+              (λ l. shown-holds Spent p s (and_left (sought_key Spent p s) (own s) (and_right (is_live t s) (sought_key Spent p s && own s) l))))
 
       pub shown-again : is_shown_again t client p slots ≡ any (λ e. live (as_slot e)) standing
       shown-again = by (is_own t client (shown_slot Spent p slots)) refl ∙ sym (contained once Spent p own)
@@ -331,6 +338,6 @@ module _ {t : ℕ} {slots : List Slot} {standing : List Held} {seen : List (List
           by false e = and-false (not (any (sought_key Code p) slots))
           by true e =
               let one = v.bag (λ s. sought_key Spent p s && own s) ∙ counted once Spent p own ∙ ap bit e in
-              let few = count-apart (sought_key Code p) live (holds p.bytes) slots apart in
-              let none = any-count (sought_key Code p) false slots (omega (arith, one, few, v.in_slots p.bytes, once p.bytes)) in
+              let few = count-apart (sought_key Code p) live (holds (bytes_of p)) slots apart in
+              let none = any-count (sought_key Code p) false slots (omega (arith, one, few, v.in_slots (bytes_of p), once (bytes_of p))) in
               rw none

@@ -6,7 +6,8 @@
 -- Written: what is read fits a slot, so that the store stays fit, and what is written fits the output. Asking says who calls and what is
 -- asked, SecondShowing when a code is shown again, Revoked what goes with a token that is revoked, Challenges which verifier answers a
 -- code's challenge. Meaning says what it is to stand; Examples and Visit show that the claim is not empty, by CallsOnRecords;
--- ShutOut that it shuts out other servers, those of UselessServers, by ServersOnRecords. Sample: what holds of the sample registry.
+-- ShutOut that it shuts out other servers, those of UselessServers, by ServersOnRecords. Sample: what holds of the sample registry; Computing: what the
+-- examples compute with.
 pub mod Challenges
 pub mod HeldIssues
 pub mod Invariant
@@ -27,6 +28,7 @@ pub mod ForGood
 pub mod CallsOnRecords
 pub mod Sample
 pub mod ServersOnRecords
+pub mod Computing
 pub mod Examples
 pub mod Visit
 pub mod AnyStoreExamples

@@ -11,6 +11,7 @@ use mathlib.Core.Path.{◌≡◌, refl, sym, ap, ap₂, ◌∙◌, subst}
 use mathlib.Core.Bool.{Bool, true, false, cond, ◌&&◌, false≢true, not, ◌||◌, and_assoc, and-true, or-true, not-not}
 use mathlib.Core.List.{List, [], ◌∷◌, ◌++◌, map, Memᴰ}
 use Prim.Native.Nat.{ℕ, ◌≤◌, ◌+◌, ◌-◌}
+use Rattle.std.specs.Prelude.{Ok, Err, Option, is_some}
 use native.Mathlib.Omega.{arith}
 use borrow.Author.Tests.{leb-true, not-false, leb-false, le-leb, lt-leb}
 use lib.Dec.{leb, eqb, lit<}
@@ -18,17 +19,13 @@ use Rattle.octets.specs.Lists.{same, every}
 use Rattle.octets.proofs.Booleans.{and_left}
 use Rattle.octets.proofs.Lists.{same_refl}
 use Rattle.encoding.specs.Hex.{read_handle, is_handle_text}
-use Rattle.encoding.specs.declared.DigestText.{DigestText}
-use Rattle.encoding.specs.declared.HandleText.{HandleText}
 use Rattle.octets.specs.Search.{count, bit, any, keep}
-use Rattle.token_store.specs.Store.{kind_access, kind_refresh, code_kind, lifetime_of, origin_of, issue, is_live, is_bound_code, is_token, is_sought, holds, shows, sought_key, comes_from, without_tokens}
+use Rattle.token_store.specs.Store.{kind_access, kind_refresh, code_kind, lifetime_of, origin_of, issue, is_live, is_bound_code, is_token, is_sought, holds, shows, sought_key}
 use Rattle.token_store.specs.declared.Slot.{Slot}
-use Rattle.token_store.specs.declared.Sought.TheVariants.{Code as sought_code, Spent as sought_spent, Refresh as sought_refresh, Access as sought_access, Token as sought_token}
+use Rattle.token_store.specs.declared.Sought.TheVariants.{Code as sought_code, Spent as sought_spent, Refresh as sought_refresh, Access as sought_access}
 use Rattle.token_store.specs.Layout.{slot_count}
 use Rattle.token_store.proofs.Slots.{free-dead}
 use Rattle.protocol.specs.declared.Refusal.{Refusal}
-use Rattle.protocol.specs.declared.Decision.{Decision}
-use Rattle.protocol.specs.declared.Decision.TheVariants.{Grant, Refuse}
 use Rattle.protocol.specs.declared.CodeRequest.{CodeRequest}
 use Rattle.protocol.specs.declared.ExchangeRequest.{ExchangeRequest}
 use Rattle.protocol.specs.declared.RefreshRequest.{RefreshRequest}
@@ -36,15 +33,16 @@ use Rattle.protocol.specs.declared.CredentialsRequest.{CredentialsRequest}
 use Rattle.protocol.specs.declared.Request.{Request}
 use Rattle.protocol.specs.declared.Request.TheVariants.{Refused, Code, Exchange, Refresh, Credentials, Revocation}
 use Rattle.protocol.specs.declared.CheckAnswer.TheVariants.{NotLive, Live}
-use Rattle.protocol.specs.Answers.{is_grant}
+use Rattle.protocol.specs.Answers.{is_grant, Decision}
 use Rattle.protocol.specs.Refusals.{Reason, when, first_of as first_reason}
 use Rattle.protocol.specs.Requests.{scope_given, fits}
-use Rattle.protocol.specs.Granting.{Plan, first_handle, second_handle, shown_slot, with_spent, room, token_on, new_code, refused_plan, code_plan, exchange_plan, refresh_plan, credentials_plan, revocation_plan, plan_for, decision_on, slots_by, slots_after, is_taken, any_taken, is_unverified, live_token, check_slots}
+use Rattle.protocol.specs.Granting.{Plan, first_handle, second_handle, shown_slot, with_spent, room, token_on, new_code, refused_plan, exchange_plan, refresh_plan, credentials_plan, plan_for, decision_on, slots_by, slots_after, is_taken, any_taken, is_unverified, live_token, check_slots, is_issued_on, without_issued_on}
+use Rattle.protocol.proofs.Computing.{plan_definitions}
 use Rattle.protocol.proofs.Reasons.{grant-every, unrefused}
 use Rattle.history.specs.Contents.{Sort, code, access, refresh, lifetime, NeverTwice}
 use Rattle.history.specs.Server.{is_live_check}
 use Rattle.octets.proofs.Counting.{bit_le, count-append, bit-none, any-count}
-use Rattle.history.proofs.Challenges.{FitChallenge, digest_of, no_digest}
+use Rattle.history.proofs.Challenges.{FitChallenge, digest_of, no_digest, link_of}
 use Rattle.history.proofs.HeldIssues.{Handle, Held, as_slot, token-origin}
 use Rattle.history.proofs.Invariant.{none-shown, shown-key, origin_held, spend_held, Invariant, invariant-seen, invariant-issue, invariant-withdraw, room-left, room-spent, origin, contained, found, spent-kept, shown-again}
 use Rattle.history.proofs.Revoked.{is_revoked_held, revoked-kept}
@@ -53,16 +51,16 @@ use Rattle.history.proofs.Readings.{only_of, first_of, second_of, Brings}
 -- ---- what is granted
 
 -- where nothing is presented there is nothing to grant
-module _ (t : ℕ) (slots : List Slot) (random : List ℕ) (d : DigestText) where
+module _ (t : ℕ) (slots : List Slot) (random : List ℕ) (d : Option (List ℕ)) where
   pub exchange-none : (r : ExchangeRequest) → is_grant (decision_on (plan_for t slots random (read_handle []) d (Exchange r))) ≡ false
   unfolding plan_for exchange_plan first_reason is_grant read_handle is_handle_text
-  exchange-none r = rw (none-shown sought_code (read_handle []) slots refl, free-dead t)
+  exchange-none r = rw (none-shown sought_code slots, free-dead t)
 
   pub refresh-none : (r : RefreshRequest) → is_grant (decision_on (plan_for t slots random (read_handle []) d (Refresh r))) ≡ false
   unfolding plan_for refresh_plan first_reason is_grant read_handle is_handle_text
-  refresh-none r = rw (none-shown sought_refresh (read_handle []) slots refl, free-dead t)
+  refresh-none r = rw (none-shown sought_refresh slots, free-dead t)
 
-module _ (t : ℕ) (slots : List Slot) (random : List ℕ) (p : HandleText) (d : DigestText) where
+module _ (t : ℕ) (slots : List Slot) (random : List ℕ) (p d : Option (List ℕ)) where
   abbrev pub Granted : Request → Type 0
   Granted request = is_grant (decision_on (plan_for t slots random p d request)) ≡ true
 
@@ -93,11 +91,11 @@ module _ (t : ℕ) (slots : List Slot) (random : List ℕ) (p : HandleText) (d :
 
 -- ---- what is issued
 
-abbrev pub code_held : ℕ → Handle → {d : DigestText} → FitChallenge d → CodeRequest → Held
+abbrev pub code_held : ℕ → Handle → {d : Option (List ℕ)} → FitChallenge d → CodeRequest → Held
 code_held t handle {d} f r = record {
   sort = code;
   bound = r.bound;
-  challenged = d.valid;
+  challenged = is_some d;
   challenge = digest_of f;
   handle = handle;
   client = r.client;
@@ -137,7 +135,7 @@ client_held t handle r = record {
   origin = handle;
 }
 
-module _ (t : ℕ) (standing : List Held) (clients : ℕ) (random : List ℕ) (twenties : List (List ℕ)) (p : HandleText) (d : DigestText) where
+module _ (t : ℕ) (standing : List Held) (clients : ℕ) (random : List ℕ) (twenties : List (List ℕ)) (p d : Option (List ℕ)) where
   -- what a request that is granted issues
   unfoldable pub issued_held : (request : Request) → Brings clients random twenties d request → List Held
   unfolding Brings
@@ -165,30 +163,30 @@ module _ (t : ℕ) (standing : List Held) (clients : ℕ) (random : List ℕ) (t
   held_after request q = issued_held request q ++ kept_held request
 
 -- a spent code of a client's that is live
-abbrev pub is_shown_held : ℕ → HandleText → ExchangeRequest → Held → Bool
+abbrev pub is_shown_held : ℕ → Option (List ℕ) → ExchangeRequest → Held → Bool
 is_shown_held t p r e = is_live t (as_slot e) && (sought_key sought_spent p (as_slot e) && eqb e.client r.client)
 
 -- what stands after a request that is refused
-unfoldable pub held_after_refusal : ℕ → List Held → HandleText → Request → List Held
+unfoldable pub held_after_refusal : ℕ → List Held → Option (List ℕ) → Request → List Held
 held_after_refusal t standing p (Refused r) = standing
 held_after_refusal t standing p (Code r) = standing
 held_after_refusal t standing p (Exchange r) =
-    cond (any (is_shown_held t p r) standing) (keep (λ e. not (comes_from sought_token p.bytes (as_slot e))) standing) standing
+    cond (any (is_shown_held t p r) standing) (keep (λ e. not (is_issued_on p (as_slot e))) standing) standing
 held_after_refusal t standing p (Refresh r) = standing
 held_after_refusal t standing p (Credentials r) = standing
 held_after_refusal t standing p (Revocation r) = standing
 
-code-slot : (t : ℕ) (handle : Handle) (d : DigestText) (f : FitChallenge d) (r : CodeRequest)
+code-slot : (t : ℕ) (handle : Handle) (d : Option (List ℕ)) (f : FitChallenge d) (r : CodeRequest)
     → new_code t handle.octets d r ≡ as_slot (code_held t handle f r)
 code-slot t handle d f r =
     λ i. record {
-      kind = code_kind r.bound d.valid;
+      kind = code_kind r.bound (is_some d);
       handle = handle.octets;
       client = r.client;
       farm = r.farm;
       scope = r.scope;
-      expiry = t + by r.bound d.valid i;
-      link = d.bytes;
+      expiry = t + by r.bound (is_some d) i;
+      link = link_of d;
     }
   where
     by : (b c : Bool) → lifetime_of (code_kind b c) ≡ lifetime code
@@ -209,7 +207,7 @@ two-issues {t} {seen = seen} x y v h =
 -- ---- each request keeps the invariant
 
 module _ {t : ℕ} {slots : List Slot} {standing : List Held} {seen : List (List ℕ)} (v : Invariant t slots standing seen) (once : NeverTwice seen)
-    (clients : ℕ) (random : List ℕ) (twenties : List (List ℕ)) (p : HandleText) (d : DigestText) where
+    (clients : ℕ) (random : List ℕ) (twenties : List (List ℕ)) (p d : Option (List ℕ)) where
   abbrev plan : Request → Plan
   plan request = plan_for t slots random p d request
 
@@ -218,7 +216,7 @@ module _ {t : ℕ} {slots : List Slot} {standing : List Held} {seen : List (List
 
   granted-kept : (request : Request) (q : Brings clients random twenties d request) → Granted t slots random p d request
       → Invariant t (plan request).granted (held_after t standing clients random twenties p d request q) (twenties ++ seen)
-  unfolding plan_for refused_plan code_plan exchange_plan refresh_plan credentials_plan revocation_plan issued_held kept_held Brings count
+  unfolding plan_definitions issued_held kept_held Brings count
   granted-kept (Refused r) q e = absurd (false≢true (sym (unrefused (refused_plan t slots random r).reasons e 0 (lit< tt))))
   granted-kept (Code r) q e =
       rw (q.0.handles, code-slot t (only_of q.0) d q.2 r)
@@ -260,15 +258,15 @@ module _ {t : ℕ} {slots : List Slot} {standing : List Held} {seen : List (List
   granted-kept (Revocation r) q e = more-seen (revoked-kept v once p random d r e)
 
   denied-kept : (request : Request) → Invariant t (plan request).denied (held_after_refusal t standing p request) seen
-  unfolding plan_for refused_plan code_plan exchange_plan refresh_plan credentials_plan revocation_plan held_after_refusal
+  unfolding plan_definitions held_after_refusal
   denied-kept (Refused r) = v
   denied-kept (Code r) = v
   denied-kept (Exchange r) = rw (shown-again v once p r.client) (by (any (is_shown_held t p r) standing))
     where
       by : (b : Bool)
-          → Invariant t (cond b (without_tokens sought_token p.bytes slots) slots)
-          (cond b (keep (λ e. not (comes_from sought_token p.bytes (as_slot e))) standing) standing) seen
-      by true = invariant-withdraw v (comes_from sought_token p.bytes)
+          → Invariant t (cond b (without_issued_on p slots) slots)
+          (cond b (keep (λ e. not (is_issued_on p (as_slot e))) standing) standing) seen
+      by true = invariant-withdraw v (is_issued_on p)
       by false = v
   denied-kept (Refresh r) = v
   denied-kept (Credentials r) = v
@@ -284,8 +282,8 @@ module _ {t : ℕ} {slots : List Slot} {standing : List Held} {seen : List (List
       by : (made : Decision) → (is_grant made ≡ true → Invariant t (plan request).granted (held_after t standing clients random twenties p d request q) (twenties ++ seen))
           → Invariant t (slots_by made (plan request))
           (cond (is_grant made) (held_after t standing clients random twenties p d request q) (held_after_refusal t standing p request)) (twenties ++ seen)
-      by Grant f = f refl
-      by (Refuse r) f = more-seen (denied-kept request)
+      by (Ok tt) f = f refl
+      by (Err r) f = more-seen (denied-kept request)
 
 -- ---- room
 
@@ -307,13 +305,13 @@ four-tests : (l c m r : Bool) {n x : Bool} → n ≡ m → x ≡ false
 four-tests l c m r p q = rw (p, q) (simp (not-not, and-true, and_assoc))
 
 -- what an exchange, and a refresh, needs of a thing issued
-abbrev pub is_exchangeable_held : ℕ → HandleText → DigestText → ExchangeRequest → Held → Bool
+abbrev pub is_exchangeable_held : ℕ → Option (List ℕ) → Option (List ℕ) → ExchangeRequest → Held → Bool
 is_exchangeable_held t p d r e =
     is_live t (as_slot e)
     && (sought_key sought_code p (as_slot e)
     && (eqb e.client r.client && (not (is_bound_code (as_slot e)) || r.again) && not (is_unverified d (as_slot e))))
 
-abbrev pub is_refreshable_held : ℕ → HandleText → RefreshRequest → Held → Bool
+abbrev pub is_refreshable_held : ℕ → Option (List ℕ) → RefreshRequest → Held → Bool
 is_refreshable_held t p r e =
     is_live t (as_slot e) && (sought_key sought_refresh p (as_slot e) && (eqb e.client r.client && fits r.scope e.scope))
 
@@ -322,7 +320,7 @@ abbrev pub has_room_held : ℕ → ℕ → List Held → Bool
 has_room_held needed t standing = leb (count (λ e. is_live t (as_slot e)) standing + needed) slot_count
 
 module _ {t : ℕ} {slots : List Slot} {standing : List Held} {seen : List (List ℕ)} (v : Invariant t slots standing seen) (once : NeverTwice seen)
-    (p : HandleText) where
+    (p : Option (List ℕ)) where
   room_for : (k : ℕ) → leb k (room t slots) ≡ has_room_held k t standing
   room_for k = leb-room k (room t slots) (count (λ e. is_live t (as_slot e)) standing) (room-left v)
 
@@ -346,7 +344,7 @@ module _ {t : ℕ} {slots : List Slot} {standing : List Held} {seen : List (List
 
     -- ---- what each request is answered
 
-    pub exchange-answer : (d : DigestText) (r : ExchangeRequest) → is_grant (decision_on (plan_for t slots random p d (Exchange r)))
+    pub exchange-answer : (d : Option (List ℕ)) (r : ExchangeRequest) → is_grant (decision_on (plan_for t slots random p d (Exchange r)))
         ≡ (any (is_exchangeable_held t p d r) standing && has_room_held 2 t standing)
     unfolding plan_for exchange_plan every
     exchange-answer d r =
@@ -371,7 +369,7 @@ module _ {t : ℕ} {slots : List Slot} {standing : List Held} {seen : List (List
         there : any (is_exchangeable_held t p d r) standing ≡ (is_live t s && (mine s && repeats s && verified s))
         there = contained v once sought_code p (λ x. mine x && repeats x && verified x)
 
-    pub refresh-answer : (d : DigestText) (r : RefreshRequest) → is_grant (decision_on (plan_for t slots random p d (Refresh r)))
+    pub refresh-answer : (d : Option (List ℕ)) (r : RefreshRequest) → is_grant (decision_on (plan_for t slots random p d (Refresh r)))
         ≡ (any (is_refreshable_held t p r) standing && has_room_held 1 t standing)
     unfolding plan_for refresh_plan every
     refresh-answer d r =
@@ -385,7 +383,7 @@ module _ {t : ℕ} {slots : List Slot} {standing : List Held} {seen : List (List
         there : any (is_refreshable_held t p r) standing ≡ (is_live t s && (eqb s.client r.client && fits r.scope s.scope))
         there = contained v once sought_refresh p (λ x. eqb x.client r.client && fits r.scope x.scope)
 
-    pub credentials-answer : (d : DigestText) (r : CredentialsRequest) → is_grant (decision_on (plan_for t slots random p d (Credentials r)))
+    pub credentials-answer : (d : Option (List ℕ)) (r : CredentialsRequest) → is_grant (decision_on (plan_for t slots random p d (Credentials r)))
         ≡ has_room_held 1 t standing
     unfolding plan_for credentials_plan every
     credentials-answer d r =

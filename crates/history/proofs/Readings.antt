@@ -7,6 +7,7 @@ use mathlib.Core.Path.{◌≡◌, refl}
 use mathlib.Core.Bool.{Bool, true, false, not, cond, ◌&&◌, ◌||◌}
 use mathlib.Core.List.{List, [], ◌∷◌, ◌++◌}
 use Prim.Native.Nat.{ℕ, ◌^◌, ◌≤◌, ◌<◌}
+use Rattle.std.specs.Prelude.{Option, Some, None}
 use native.Mathlib.Omega.{arith}
 use borrow.Author.Tests.{ltb-true, eqb-true, not-false}
 use lib.Dec.{eqb, lit<}
@@ -17,19 +18,17 @@ use Rattle.octets.specs.Lists.{every, Bytes}
 use Rattle.octets.proofs.Lists.{every-at, take-bytes, drop-bytes}
 use Rattle.octets.proofs.Booleans.{of_T, or-none, both_ways, implied, implies}
 use Rattle.octets.proofs.Table.{at}
-use Rattle.encoding.specs.declared.DigestText.{DigestText}
 use Rattle.form.specs.Content.{Value, missing, once, repeated, form_value, is_missing, is_repeated, only_value, is_once}
 use Rattle.scope.specs.Set.{has, is_within, of_byte}
 use Rattle.scope.specs.Value.{read_scope}
-use Rattle.scope.specs.declared.ScopeValue.{ScopeValue}
-use Rattle.scope.specs.declared.ScopeValue.TheVariants.{Names, Invalid}
+use Rattle.scope.specs.declared.Scope.{Scope}
 use Rattle.scope.proofs.Set.{within_has, has_within}
 use Rattle.scope.proofs.Value.{read-bound}
 use Rattle.client_registry.specs.Registry.{Client, fit_registry, clients_of}
 use Rattle.client_registry.specs.Lookup.{number_of, is_known, client_at}
 use Rattle.client_registry.proofs.Clients.{fit_count, fit-client, scope-byte}
 use Rattle.octets.proofs.Searches.{each-every}
-use Rattle.protocol.specs.declared.Decision.{Decision}
+use Rattle.protocol.specs.Answers.{Decision}
 use Rattle.protocol.specs.declared.ScopeAsked.{ScopeAsked}
 use Rattle.protocol.specs.declared.ScopeAsked.TheVariants.{Everything, Only, Unreadable}
 use Rattle.protocol.specs.declared.Request.{Request}
@@ -64,9 +63,9 @@ scope-read : (v : List ℕ) → AskedSet (asked_by (read_scope v))
 unfolding asked_by
 scope-read v = by (read_scope v) refl
   where
-    by : (r : ScopeValue) → read_scope v ≡ r → AskedSet (asked_by r)
-    by (Names s) e = let b = read-bound v s e in record { some = omega (arith, b.1); byte = b.0 }
-    by Invalid e = tt
+    by : (r : Option Scope) → read_scope v ≡ r → AskedSet (asked_by r)
+    by (Some s) e = let b = read-bound v s e in record { some = omega (arith, b.1); byte = b.0 }
+    by None e = tt
 
 scope-asked : (v : Value) → AskedSet (scope_asked v)
 unfolding scope_asked
@@ -101,9 +100,9 @@ unfolding fits is_within_granted scope_asked asked_by none_beyond
 within-granted missing set = refl
 within-granted (once v) set = by (read_scope v) refl
   where
-    by : (r : ScopeValue) → read_scope v ≡ r → fits (asked_by r) set ≡ none_beyond r set
-    by (Names s) e = within-names s.bits set (read-bound v s e).0
-    by Invalid e = refl
+    by : (r : Option Scope) → read_scope v ≡ r → fits (asked_by r) set ≡ none_beyond r set
+    by (Some s) e = within-names s.bits set (read-bound v s e).0
+    by None e = refl
 within-granted repeated set = refl
 
 -- and so is the scope given
@@ -112,9 +111,9 @@ unfolding scope_given asked_or scope_asked asked_by names_or
 given-asked missing set = refl
 given-asked (once v) set = by (read_scope v)
   where
-    by : (r : ScopeValue) → scope_given (asked_by r) set ≡ names_or r set
-    by (Names s) = refl
-    by Invalid = refl
+    by : (r : Option Scope) → scope_given (asked_by r) set ≡ names_or r set
+    by (Some s) = refl
+    by None = refl
 given-asked repeated set = refl
 
 -- ---- the clients of a fit registry
@@ -166,7 +165,7 @@ pub record FieldsFit (clients number farm set : ℕ) : Type 0 where
   pub wide : farm < 2 ^ 32
   pub scope : ScopeSet set
 
-module _ (clients : ℕ) (random : List ℕ) (twenties : List (List ℕ)) (d : DigestText) where
+module _ (clients : ℕ) (random : List ℕ) (twenties : List (List ℕ)) (d : Option (List ℕ)) where
   unfoldable pub Brings : Request → Type 0
   Brings (Refused r) = is_unfit_refusal r ≡ false
   Brings (Code r) = OneHandle random twenties × FieldsFit clients r.client r.farm r.scope × FitChallenge d

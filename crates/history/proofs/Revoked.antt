@@ -8,17 +8,16 @@ use mathlib.Core.Path.{◌≡◌, refl, sym, ap, ap₂, ◌∙◌, fun_ext}
 use mathlib.Core.Bool.{Bool, true, false, cond, not, ◌&&◌, ◌||◌, false≢true, and_assoc, and-true, or-false, or-true}
 use mathlib.Core.List.{List, map, map-id, map-map}
 use Prim.Native.Nat.{ℕ}
+use Rattle.std.specs.Prelude.{Option, Some, None}
 use lib.Dec.{eqb}
 use Rattle.octets.specs.Text.{bytes}
 use Rattle.octets.specs.Lists.{every, same}
 use Rattle.octets.specs.Search.{any, keep, replace_first, replace_all}
-use Rattle.octets.proofs.Booleans.{and_left, and_right}
+use Rattle.octets.proofs.Booleans.{and_right}
 use Rattle.octets.proofs.Lists.{same-eq}
 use Rattle.octets.proofs.Counting.{any-map, replace_first-map}
 use Rattle.octets.proofs.Searches.{replace_all-map}
-use Rattle.encoding.specs.Hex.{hex_text, read_handle}
-use Rattle.encoding.specs.declared.DigestText.{DigestText}
-use Rattle.encoding.specs.declared.HandleText.{HandleText}
+use Rattle.encoding.specs.Hex.{hex_text, read_handle, presents}
 use Rattle.encoding.proofs.Hex.{handle-round}
 use Rattle.client_registry.specs.Registry.{Client}
 use Rattle.token_store.specs.Store.{origin_of, free_slot, decode_slot, is_live, is_sought, shows, sought_key, comes_from}
@@ -43,17 +42,17 @@ abbrev pub goes_with_slot : Slot → Slot → Bool
 goes_with_slot x s = is_sought Token s && same x.handle s.handle || is_sought Refresh x && comes_from Access (origin_of x) s
 
 -- a live token of a client that is shown, and more
-abbrev pub is_revocable_held : ℕ → HandleText → ℕ → (Slot → Bool) → Held → Bool
+abbrev pub is_revocable_held : ℕ → Option (List ℕ) → ℕ → (Slot → Bool) → Held → Bool
 is_revocable_held t p client more x = is_live t (as_slot x) && (sought_key Token p (as_slot x) && (eqb x.client client && more (as_slot x)))
 
 -- what goes with one that stands
-abbrev pub is_revoked_held : ℕ → HandleText → ℕ → List Held → Slot → Bool
+abbrev pub is_revoked_held : ℕ → Option (List ℕ) → ℕ → List Held → Slot → Bool
 is_revoked_held t p client standing s = any (is_revocable_held t p client (λ x. goes_with_slot x s)) standing
 
 -- ---- by the issues, and by a slot's bytes
 
 -- a handle's text presents it
-shown-text : (h : Handle) → read_handle (hex_text h.octets) ≡ record { valid = true; bytes = h.octets }
+shown-text : (h : Handle) → read_handle (hex_text h.octets) ≡ Some h.octets
 shown-text h = handle-round h.octets h.size h.small
 
 refresh-token : (s : Slot) → is_sought Refresh s ≡ true → is_sought Token s ≡ true
@@ -65,14 +64,14 @@ module _ (clients : List Client) where
     where
       itself : (is_token (as_issue clients e) && is_of (as_issue clients x).text (as_issue clients e))
           ≡ (is_sought Token (as_slot e) && same (as_slot x).handle (as_slot e).handle)
-      itself = token-key clients (as_issue clients x).text e ∙ ap (λ (p : HandleText). sought_key Token p (as_slot e)) (shown-text x.handle)
+      itself = token-key clients (as_issue clients x).text e ∙ ap (λ (p : Option (List ℕ)). sought_key Token p (as_slot e)) (shown-text x.handle)
 
       others : is_sought Refresh (as_slot x) ≡ true
           → (is_a access (as_issue clients e) && same (as_issue clients x).origin (as_issue clients e).origin)
           ≡ comes_from Access (origin_of (as_slot x)) (as_slot e)
       others is =
-          access-from clients (as_issue clients x).origin e (ap (λ (p : HandleText). p.valid) (shown-text x.origin))
-          ∙ ap (λ (p : HandleText). comes_from Access p.bytes (as_slot e)) (shown-text x.origin)
+          access-from clients (as_issue clients x).origin e
+          ∙ ap (λ (p : Option (List ℕ)). is_sought Access (as_slot e) && presents p (origin_of (as_slot e))) (shown-text x.origin)
           ∙ ap (λ (o : List ℕ). comes_from Access o (as_slot e)) (sym (token-origin x (refresh-token (as_slot x) is)))
 
   pub goes-bytes : (x : Held) (slot : List ℕ) → let i = as_issue clients x in
@@ -84,19 +83,19 @@ module _ (clients : List Client) where
       s = decode_slot slot
 
       itself : (holds_token slot && has_text (as_issue clients x).text slot) ≡ (is_sought Token s && same (as_slot x).handle s.handle)
-      itself = ap (λ (p : HandleText). is_sought Token s && shows p s) (shown-text x.handle)
+      itself = ap (λ (p : Option (List ℕ)). is_sought Token s && shows p s) (shown-text x.handle)
 
       others : is_sought Refresh (as_slot x) ≡ true
           → (holds_access slot && came_from (as_issue clients x).origin slot) ≡ comes_from Access (origin_of (as_slot x)) s
       others is =
-          ap (λ (p : HandleText). is_sought Access s && (p.valid && same p.bytes (origin_of s))) (shown-text x.origin)
+          ap (λ (p : Option (List ℕ)). is_sought Access s && presents p (origin_of s)) (shown-text x.origin)
           ∙ ap (λ (o : List ℕ). comes_from Access o s) (sym (token-origin x (refresh-token (as_slot x) is)))
 
   shifted : (a b c d : Bool) → ((a && (b && c)) && d) ≡ (a && (b && (c && d)))
   shifted a b c d = and_assoc a (b && c) d ∙ ap (λ (e : Bool). a && e) (and_assoc b c d)
 
   module _ (t : ℕ) (header body : List ℕ) where
-    abbrev presented : HandleText
+    abbrev presented : Option (List ℕ)
     presented = read_handle (value_of body (bytes "token"))
 
     -- a token that may be revoked, and more
@@ -119,8 +118,13 @@ module _ (clients : List Client) where
 
 -- ---- the slots that are freed
 
+-- what is presented, if it is these bytes
+presented-is : (p : Option (List ℕ)) (h : List ℕ) → presents p h ≡ true → p ≡ Some h
+presented-is (Some b) h e = ap Some (same-eq b h e)
+presented-is None h e = absurd (false≢true e)
+
 module _ {t : ℕ} {slots : List Slot} {standing : List Held} {seen : List (List ℕ)} (v : Invariant t slots standing seen) (once : NeverTwice seen)
-    (p : HandleText) where
+    (p : Option (List ℕ)) where
   abbrev shown : Slot
   shown = shown_slot Token p slots
 
@@ -144,9 +148,7 @@ module _ {t : ℕ} {slots : List Slot} {standing : List Held} {seen : List (List
   has-handle : is_live t shown ≡ true → (s : Slot) → key s ≡ (is_sought Token s && same shown.handle s.handle)
   has-handle live s =
       let found = and_right (is_sought Token shown) (shows p shown) (shown-key t slots Token p live) in
-      let handle = same-eq p.bytes shown.handle (and_right p.valid (same p.bytes shown.handle) found) in
-      ap₂ (λ (b : Bool) (h : List ℕ). is_sought Token s && (b && same h s.handle))
-      (and_left p.valid (same p.bytes shown.handle) found) handle
+      ap (λ (o : Option (List ℕ)). is_sought Token s && presents o s.handle) (presented-is p shown.handle found)
 
   pub revoked-is : revoked_slots t p slots ≡ replace_all free_slot (λ s. is_live t shown && goes_with_slot shown s) slots
   unfolding free_slot
@@ -170,7 +172,7 @@ module _ {t : ℕ} {slots : List Slot} {standing : List Held} {seen : List (List
 
   -- ---- any revocation
 
-  module _ (random : List ℕ) (d : DigestText) (r : RevocationRequest) where
+  module _ (random : List ℕ) (d : Option (List ℕ)) (r : RevocationRequest) where
     abbrev granted : Bool
     granted = is_grant (decision_on (plan_for t slots random p d (Revocation r)))
 

@@ -8,10 +8,10 @@ use mathlib.Core.Path.{◌≡◌, refl, sym, ap, ap₂, ◌∙◌, fun_ext, subs
 use mathlib.Core.Bool.{Bool, true, false, cond, not, ◌&&◌, false≢true, and-false}
 use mathlib.Core.List.{List, [], ◌∷◌, ◌++◌, map}
 use Prim.Native.Nat.{ℕ}
+use Rattle.std.specs.Prelude.{Ok, Err, Option, is_some, Some, None}
 use borrow.Author.Tests.{not-true}
 use lib.Dec.{eqb}
 use Rattle.octets.specs.Text.{bytes}
-use Rattle.octets.specs.Lists.{same}
 use Rattle.octets.specs.Search.{any, keep}
 use Rattle.octets.proofs.Booleans.{by-test, and_left, and_right}
 use Rattle.octets.proofs.Counting.{keep_all, keep-map, any-map, first_or-none}
@@ -19,14 +19,11 @@ use Rattle.encoding.specs.Hex.{read_handle, is_handle_text}
 use Rattle.form.specs.Content.{Value, missing, once, repeated, form_value, is_missing, only_value}
 use Rattle.client_registry.specs.Registry.{Client}
 use Rattle.client_registry.specs.Lookup.{client_at}
-use Rattle.encoding.specs.declared.DigestText.{DigestText}
-use Rattle.encoding.specs.declared.HandleText.{HandleText}
-use Rattle.token_store.specs.Store.{free_slot, is_live, is_sought, sought_key, without_tokens, comes_from}
+use Rattle.token_store.specs.Store.{free_slot, is_live, is_sought, sought_key}
 use Rattle.token_store.specs.declared.Slot.{Slot}
-use Rattle.token_store.specs.declared.Sought.TheVariants.{Code as sought_code, Spent as sought_spent, Token as sought_token}
+use Rattle.token_store.specs.declared.Sought.TheVariants.{Code as sought_code, Spent as sought_spent}
 use Rattle.token_store.proofs.Slots.{free-dead}
-use Rattle.protocol.specs.declared.Decision.{Decision}
-use Rattle.protocol.specs.declared.Decision.TheVariants.{Grant, Refuse}
+use Rattle.protocol.specs.Answers.{Decision}
 use Rattle.protocol.specs.declared.ExchangeRequest.{ExchangeRequest}
 use Rattle.protocol.specs.declared.Request.{Request}
 use Rattle.protocol.specs.declared.Request.TheVariants.{Refused, Code, Exchange, Refresh, Credentials, Revocation}
@@ -39,8 +36,9 @@ use Rattle.protocol.specs.Authorization.{query_client, code_reading, page_reason
 use Rattle.protocol.specs.ClientForms.{is_invalid_form, is_invalid_client, call_client, form_reasons}
 use Rattle.protocol.specs.Token.{token_names, read_token}
 use Rattle.protocol.specs.Revocation.{revocation_names, read_revocation}
-use Rattle.protocol.specs.Granting.{shown_slot, is_own, is_shown_again, decision_on, refused_plan, code_plan, exchange_plan, refresh_plan, credentials_plan, revocation_plan, plan_for, plan_of}
+use Rattle.protocol.specs.Granting.{shown_slot, is_own, is_shown_again, decision_on, exchange_plan, plan_for, plan_of, without_issued_on, is_issued_on}
 use Rattle.protocol.specs.Outcomes.{Handed}
+use Rattle.protocol.proofs.Computing.{plan_definitions}
 use Rattle.history.specs.Calls.{Call, authorization, token, revocation, check}
 use Rattle.history.specs.Contents.{spent, Issue, is_a, is_live_at, is_of, is_token_from, value_of, is_exchange, caller, is_admitted, is_second_showing, code_shown, is_withdrawn_by, NeverTwice}
 use Rattle.history.proofs.HeldIssues.{Held, as_slot, as_issue, issue-live, issue-key, issue-from}
@@ -65,7 +63,7 @@ module _ (clients : List Client) where
   unfoldable is_showing : Call → Bool
   is_showing (authorization query decision farm handed) = false
   is_showing (token header body handed) =
-      is_admitted clients header body && is_exchange body && (read_handle (value_of body (bytes "code"))).valid
+      is_admitted clients header body && is_exchange body && is_some (read_handle (value_of body (bytes "code")))
   is_showing (revocation header body clock output) = false
   is_showing (check presented clock) = false
 
@@ -105,14 +103,14 @@ module _ (clients : List Client) where
       other (authorization query decision farm handed) (by (first_of (page_reasons clients query ++ redirect_reasons client query decision farm))) refl
     where
       by : (d : Decision) → is_exchange_request (unless_refused d (code_reading clients query farm)).request ≡ false
-      by Grant = refl
-      by (Refuse r) = refl
+      by (Ok tt) = refl
+      by (Err r) = refl
   shown_by (revocation header body clock output) =
       other (revocation header body clock output) (by (first_of (form_reasons revocation_names (bytes "token") clients header body))) refl
     where
       by : (d : Decision) → is_exchange_request (unless_refused d (revocation_reading clients header body)).request ≡ false
-      by Grant = refl
-      by (Refuse r) = refl
+      by (Ok tt) = refl
+      by (Err r) = refl
   shown_by (check presented clock) = other (check presented clock) refl refl
   shown_by (token header body handed) =
       by-test (is_admitted clients header body)
@@ -135,19 +133,15 @@ module _ (clients : List Client) where
 -- ---- by the issues that stand
 
 -- a text that is no handle's shows nothing that was issued
-none-held : (t : ℕ) (p : HandleText) (r : ExchangeRequest) (held : List Held) → p.valid ≡ false → any (is_shown_held t p r) held ≡ false
+none-held : (t : ℕ) (p : Option (List ℕ)) (r : ExchangeRequest) (held : List Held) → is_some p ≡ false → any (is_shown_held t p r) held ≡ false
 unfolding any
-none-held t p r [] e = refl
-none-held t p r (x ∷ xs) e = rw (none, none-held t p r xs e)
-  where
-    none : is_shown_held t p r x ≡ false
-    none =
-        ap (λ (v : Bool). is_live t (as_slot x) && (is_sought sought_spent (as_slot x) && (v && same p.bytes (as_slot x).handle) && eqb x.client r.client)) e
-        ∙ ap (λ (b : Bool). is_live t (as_slot x) && (b && eqb x.client r.client)) (and-false (is_sought sought_spent (as_slot x)))
-        ∙ and-false (is_live t (as_slot x))
+none-held t (Some h) r held e = absurd (false≢true (sym e))
+none-held t None r [] e = refl
+none-held t None r (x ∷ xs) e =
+    rw (and-false (is_sought sought_spent (as_slot x)), and-false (is_live t (as_slot x))) (none-held t None r xs e)
 
 -- what stands of a request that is no exchange
-refusal-keeps : (t : ℕ) (held : List Held) (p : HandleText) (request : Request) → is_exchange_request request ≡ false → held_after_refusal t held p request ≡ held
+refusal-keeps : (t : ℕ) (held : List Held) (p : Option (List ℕ)) (request : Request) → is_exchange_request request ≡ false → held_after_refusal t held p request ≡ held
 unfolding held_after_refusal
 refusal-keeps t held p (Refused r) e = refl
 refusal-keeps t held p (Code r) e = refl
@@ -180,7 +174,7 @@ module _ (clients : List Client) (held : List Held) (t : ℕ) where
   second_none (token header body handed) e =
       ap (λ (b : Bool). is_admitted clients header body && is_exchange body && b) (shown-held header body) ∙ by (is_admitted clients header body && is_exchange body) e
     where
-      by : (b : Bool) → (b && (read_handle (text header body)).valid) ≡ false
+      by : (b : Bool) → (b && is_some (read_handle (text header body))) ≡ false
           → (b && any (is_shown_held t (read_handle (text header body)) (exchange_asked clients header body)) held) ≡ false
       by true e = none-held t (read_handle (text header body)) (exchange_asked clients header body) held e
       by false e = refl
@@ -196,23 +190,19 @@ module _ (clients : List Client) (held : List Held) (t : ℕ) where
   unfolding is_second_showing code_shown asked held_after_refusal
   exchange-withdrawn header body handed a x read =
       rw (a, x, read, shown-held header body)
-      (by (any (is_shown_held t p (exchange_asked clients header body)) held) refl)
+      (by (any (is_shown_held t p (exchange_asked clients header body)) held))
     where
-      p : HandleText
+      p : Option (List ℕ)
       p = read_handle (text header body)
 
-      valid : any (is_shown_held t p (exchange_asked clients header body)) held ≡ true → p.valid ≡ true
-      valid e =
-          by-test p.valid (λ y. y) (λ n. absurd (false≢true (sym (none-held t p (exchange_asked clients header body) held n) ∙ e)))
-
-      by : (b : Bool) → any (is_shown_held t p (exchange_asked clients header body)) held ≡ b
+      by : (b : Bool)
           → keep (λ e. not (b && is_token_from (text header body) e)) issues
-          ≡ map (as_issue clients) (cond b (keep (λ e. not (comes_from sought_token p.bytes (as_slot e))) held) held)
-      by true e =
+          ≡ map (as_issue clients) (cond b (keep (λ e. not (is_issued_on p (as_slot e))) held) held)
+      by true =
           keep-map (as_issue clients) (λ e. not (is_token_from (text header body) e)) held
           ∙ ap (λ (k : Held → Bool). map (as_issue clients) (keep k held))
-          (fun_ext (λ h. ap not (issue-from clients (text header body) h (valid e))))
-      by false e = keep_all issues
+          (fun_ext (λ h. ap not (issue-from clients (text header body) h)))
+      by false = keep_all issues
 
   -- what a second showing withdraws of the issues is what it withdraws of what they are read from
   pub withdrawn-shown : (c : Call) → keep (λ e. not (is_withdrawn_by clients t issues c e)) issues
@@ -236,9 +226,9 @@ module _ (clients : List Client) (held : List Held) (t : ℕ) where
 -- ---- by the slots
 
 -- what a refusal of a request that is no exchange leaves
-unread-denied : (t : ℕ) (slots : List Slot) (random : List ℕ) (p : HandleText) (d : DigestText) (request : Request)
+unread-denied : (t : ℕ) (slots : List Slot) (random : List ℕ) (p d : Option (List ℕ)) (request : Request)
     → is_exchange_request request ≡ false → (plan_for t slots random p d request).denied ≡ slots
-unfolding plan_for refused_plan code_plan exchange_plan refresh_plan credentials_plan revocation_plan
+unfolding plan_definitions
 unread-denied t slots random p d (Refused r) e = refl
 unread-denied t slots random p d (Code r) e = refl
 unread-denied t slots random p d (Exchange r) e = absurd (false≢true (sym e))
@@ -257,18 +247,19 @@ module _ (clients : List Client) (t : ℕ) (slots : List Slot) where
   is_again (check presented clock) = false
 
   -- a text that is no handle's shows no code again
-  again-none : (p : HandleText) (client : ℕ) → p.valid ≡ false → is_shown_again t client p slots ≡ false
-  again-none p client e = rw (none-shown sought_spent p slots e, free-dead t) (and-false (not (any (sought_key sought_code p) slots)))
+  again-none : (p : Option (List ℕ)) (client : ℕ) → is_some p ≡ false → is_shown_again t client p slots ≡ false
+  again-none (Some h) client e = absurd (false≢true (sym e))
+  again-none None client e = rw (none-shown sought_spent slots, free-dead t) (and-false (not (any (sought_key sought_code None) slots)))
 
   unshown-again : (c : Call) → is_showing clients c ≡ false → is_again c ≡ false
   unfolding is_showing is_again
   unshown-again (authorization query decision farm handed) e = refl
   unshown-again (token header body handed) e = by (is_admitted clients header body && is_exchange body) e
     where
-      p : HandleText
+      p : Option (List ℕ)
       p = read_handle (value_of body (bytes "code"))
 
-      by : (b : Bool) → (b && p.valid) ≡ false → (b && is_shown_again t (call_client clients header body) p slots) ≡ false
+      by : (b : Bool) → (b && is_some p) ≡ false → (b && is_shown_again t (call_client clients header body) p slots) ≡ false
       by true e = again-none p (call_client clients header body) e
       by false e = refl
   unshown-again (revocation header body clock output) e = refl
@@ -277,20 +268,20 @@ module _ (clients : List Client) (t : ℕ) (slots : List Slot) where
   exchange-denied : (random header body : List ℕ) (handed : Handed) → is_admitted clients header body ≡ true → is_exchange body ≡ true
       → read_token clients header body ≡ exchange_reading clients header body
       → let c = token header body handed in
-      (plan_of t slots random (asked clients c)).denied ≡ cond (is_again c) (without_tokens sought_token (read_handle (code_shown c)).bytes slots) slots
+      (plan_of t slots random (asked clients c)).denied ≡ cond (is_again c) (without_issued_on (read_handle (code_shown c)) slots) slots
   unfolding is_again code_shown asked plan_for exchange_plan
   exchange-denied random header body handed a x read = rw (read, a, x)
 
   -- what a call that is refused leaves
   pub denied-is : (random : List ℕ) (c : Call)
-      → (plan_of t slots random (asked clients c)).denied ≡ cond (is_again c) (without_tokens sought_token (read_handle (code_shown c)).bytes slots) slots
+      → (plan_of t slots random (asked clients c)).denied ≡ cond (is_again c) (without_issued_on (read_handle (code_shown c)) slots) slots
   denied-is random c = by (shown_by clients c)
     where
       by : {c : Call} → ShownBy clients c
-          → (plan_of t slots random (asked clients c)).denied ≡ cond (is_again c) (without_tokens sought_token (read_handle (code_shown c)).bytes slots) slots
+          → (plan_of t slots random (asked clients c)).denied ≡ cond (is_again c) (without_issued_on (read_handle (code_shown c)) slots) slots
       by (other c unread none) =
           unread-denied t slots random (asked clients c).presented (asked clients c).challenge (asked clients c).request unread
-          ∙ ap (λ (b : Bool). cond b (without_tokens sought_token (read_handle (code_shown c)).bytes slots) slots) (sym (unshown-again c none))
+          ∙ ap (λ (b : Bool). cond b (without_issued_on (read_handle (code_shown c)) slots) slots) (sym (unshown-again c none))
       by (showing header body handed a x read) = exchange-denied random header body handed a x read
 
   -- where no random bytes came twice, a call shows a code again exactly when it is a second showing in the claim's words
@@ -304,23 +295,10 @@ module _ (clients : List Client) (t : ℕ) (slots : List Slot) where
   again-second v never (revocation header body clock output) = refl
   again-second v never (check presented clock) = refl
 
-  -- a call that shows a code again does so by the text of a handle, and is refused as `invalid_grant`
-  pub again-valid : (c : Call) → is_again c ≡ true → (read_handle (code_shown c)).valid ≡ true
-  unfolding is_again code_shown
-  again-valid (authorization query decision farm handed) e = absurd (false≢true e)
-  again-valid (token header body handed) e =
-      let p = read_handle (value_of body (bytes "code")) in
-      let again = is_shown_again t (call_client clients header body) p slots in
-      by-test p.valid (λ y. y)
-      (λ n.
-      let none = again-none p (call_client clients header body) n in
-      absurd (false≢true (sym none ∙ and_right (is_admitted clients header body && is_exchange body) again e)))
-  again-valid (revocation header body clock output) e = absurd (false≢true e)
-  again-valid (check presented clock) e = absurd (false≢true e)
-
+  -- a call that shows a code again is refused as `invalid_grant`
   exchange-refused : (random header body : List ℕ) (handed : Handed) → read_token clients header body ≡ exchange_reading clients header body
       → is_again (token header body handed) ≡ true
-      → decision_on (plan_of t slots random (asked clients (token header body handed))) ≡ Refuse (Token InvalidGrant)
+      → decision_on (plan_of t slots random (asked clients (token header body handed))) ≡ Err (Token InvalidGrant)
   unfolding is_again asked plan_for exchange_plan first_of
   exchange-refused random header body handed read e =
       let p = read_handle (value_of body (bytes "code")) in
@@ -330,9 +308,9 @@ module _ (clients : List Client) (t : ℕ) (slots : List Slot) where
       let none = not-true unspent (and_left (not unspent) (is_own t client (shown_slot sought_spent p slots)) again) in
       rw (read, first_or-none (sought_key sought_code p) free_slot slots none, free-dead t)
 
-  pub again-refused : (random : List ℕ) (c : Call) → is_again c ≡ true → decision_on (plan_of t slots random (asked clients c)) ≡ Refuse (Token InvalidGrant)
+  pub again-refused : (random : List ℕ) (c : Call) → is_again c ≡ true → decision_on (plan_of t slots random (asked clients c)) ≡ Err (Token InvalidGrant)
   again-refused random c = by (shown_by clients c)
     where
-      by : {c : Call} → ShownBy clients c → is_again c ≡ true → decision_on (plan_of t slots random (asked clients c)) ≡ Refuse (Token InvalidGrant)
+      by : {c : Call} → ShownBy clients c → is_again c ≡ true → decision_on (plan_of t slots random (asked clients c)) ≡ Err (Token InvalidGrant)
       by (other c unread none) e = absurd (false≢true (sym (unshown-again c none) ∙ e))
       by (showing header body handed a x read) e = exchange-refused random header body handed read e

@@ -8,6 +8,7 @@ use mathlib.Core.Path.{◌≡◌, refl, sym, ap, ap₂, ◌∙◌, fun_ext, subs
 use mathlib.Core.Bool.{Bool, true, false, cond, not, ◌&&◌, ◌||◌, false≢true}
 use mathlib.Core.List.{List, [], ◌∷◌, ◌++◌, map, map-id, map-map, append_assoc}
 use Prim.Native.Nat.{ℕ, ◌+◌, ◌≤◌}
+use Rattle.std.specs.Prelude.{Ok, Err, is_some}
 use native.Mathlib.Omega.{arith}
 use borrow.Author.Tests.{not-false}
 use lib.Dec.{lit<}
@@ -33,10 +34,8 @@ use Rattle.token_store.specs.declared.Sought.TheVariants.{Code as sought_code, R
 use Rattle.protocol.specs.declared.PageCause.TheVariants.{Query}
 use Rattle.protocol.specs.declared.Refusal.{Refusal}
 use Rattle.protocol.specs.declared.Refusal.TheVariants.{ErrorPage}
-use Rattle.protocol.specs.declared.Decision.{Decision}
-use Rattle.protocol.specs.declared.Decision.TheVariants.{Grant, Refuse}
 use Rattle.protocol.specs.declared.Reading.{Reading}
-use Rattle.protocol.specs.Answers.{is_grant}
+use Rattle.protocol.specs.Answers.{is_grant, Decision}
 use Rattle.protocol.specs.Refusals.{Reason, first_of as first_reason}
 use Rattle.protocol.specs.Requests.{refused_reading, unless_refused}
 use Rattle.protocol.specs.Authorization.{query_client, is_bad_client, is_bad_redirect, is_bad_state, is_invalid_request, challenge_given, code_asked, code_reading, page_reasons, redirect_reasons, read_authorization, separator, state_text, location, code_parameter, location_text}
@@ -50,7 +49,7 @@ use Rattle.protocol.proofs.Lengths.{separator-length}
 use Rattle.history.specs.Calls.{Call, authorization, token, revocation, check, handed_to, Result}
 use Rattle.history.specs.Server.{result_of}
 use Rattle.history.specs.Contents.{Sort, code, access, refresh, Issue, is_a, is_of, no_issue, origin_of, value_of, is_exchange, is_refresh, is_credentials, asked_or, lifetime, forty_at, code_in, access_in, refresh_in, code_issue, token_issue, exchange_issues, refresh_issues, own_issue, issued_by, is_spent_by, as_spent, after_grant, is_withdrawn_by, goes_with, is_revoked_by, standing_after, twenties}
-use Rattle.history.proofs.Challenges.{FitChallenge, challenge-shown}
+use Rattle.history.proofs.Challenges.{FitChallenge, challenge-shown, link_of}
 use Rattle.history.proofs.HeldIssues.{Handle, Held, as_slot, as_issue, spent_held, sought, none_held, issue-key}
 use Rattle.history.proofs.Invariant.{origin_held, spend_held}
 use Rattle.history.proofs.Readings.{given-asked, only_of, first_of, second_of, Brings, BringsAs}
@@ -117,22 +116,22 @@ module _ (t : ℕ) (slots : List Slot) (random : List ℕ) where
   unfolding plan_for refused_plan first_reason is_grant
   never-refused r e = absurd (false≢true e)
 
-  pub unless-granted : (d : Decision) (x : Reading) → IsGranted (unless_refused d x) → d ≡ Grant
+  pub unless-granted : (d : Decision) (x : Reading) → IsGranted (unless_refused d x) → d ≡ Ok tt
   unfolding unless_refused
-  unless-granted Grant x e = refl
-  unless-granted (Refuse r) x e = never-refused r e
+  unless-granted (Ok tt) x e = refl
+  unless-granted (Err r) x e = never-refused r e
 
   -- a reading is granted where no reason refuses it before, and it is
   pub unless-grants : (d : Decision) (x : Reading)
       → is_grant (decision_on (plan_of t slots random (unless_refused d x))) ≡ (is_grant d && is_grant (decision_on (plan_of t slots random x)))
   unfolding unless_refused plan_for refused_plan first_reason is_grant
-  unless-grants Grant x = refl
-  unless-grants (Refuse r) x = refl
+  unless-grants (Ok tt) x = refl
+  unless-grants (Err r) x = refl
 
-pub is-grant : (d : Decision) → is_grant d ≡ true → d ≡ Grant
+pub is-grant : (d : Decision) → is_grant d ≡ true → d ≡ Ok tt
 unfolding is_grant
-is-grant Grant e = refl
-is-grant (Refuse r) e = absurd (false≢true e)
+is-grant (Ok tt) e = refl
+is-grant (Err r) e = absurd (false≢true e)
 
 -- an address that is neither repeated nor another's
 own-address : (redirect : List ℕ) (given : Value) → is_repeated given ≡ false → (not (is_missing given) && not (is_once redirect given)) ≡ false
@@ -210,7 +209,7 @@ module _ (clients : List Client) (short : (n : ℕ) → length (client_at client
     reasons = page_reasons clients query ++ redirect_reasons (client_at clients number) query decision farm
 
     -- an address that was given is the client's
-    address-given : first_reason reasons ≡ Grant
+    address-given : first_reason reasons ≡ Ok tt
         → let given = form_value query (bytes "redirect_uri") in
         given ≡ cond (not (is_missing given)) (once (client_at clients number).redirect) missing
     unfolding page_reasons redirect_reasons is_bad_client is_bad_redirect is_grant
@@ -223,9 +222,9 @@ module _ (clients : List Client) (short : (n : ℕ) → length (client_at client
         (unrefused reasons passed 2 (lit< tt))
 
     -- the challenge that was given is what was read
-    challenge-given : first_reason reasons ≡ Grant
+    challenge-given : first_reason reasons ≡ Ok tt
         → let given = challenge_given (form_value query (bytes "code_challenge")) in
-        form_value query (bytes "code_challenge") ≡ cond given.valid (once (base64_text url given.bytes)) missing
+        form_value query (bytes "code_challenge") ≡ cond (is_some given) (once (base64_text url (link_of given))) missing
     unfolding page_reasons redirect_reasons is_invalid_request is_grant
     challenge-given e =
         let type = form_value query (bytes "response_type") in
@@ -306,7 +305,7 @@ module _ (clients : List Client) (short : (n : ℕ) → length (client_at client
     module _ {reading : Reading} (read : read_token clients header body ≡ reading) (granted : GrantedAs reading) where
       -- what is written, for any part of it
       reply-shown : (place : ℕ) → forty_at place (result asks)
-          ≡ part (reply_text handed.random (plan_of at g.slots handed.random reading) Grant) place 40
+          ≡ part (reply_text handed.random (plan_of at g.slots handed.random reading) (Ok tt)) place 40
       unfolding text_on asked handed_to
       reply-shown place =
           let plan : Reading → Plan = λ r. plan_of at g.slots handed.random r in

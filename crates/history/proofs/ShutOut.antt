@@ -14,8 +14,8 @@ use native.Mathlib.Omega.{arith}
 use lib.Dec.{ltb, eqb, lit≤, lit<}
 use lib.ListN.{length, get_or, length-map, get_or-map}
 use lib.Seq.{drop_at}
-use Rattle.octets.specs.Lists.{index_of, split_on, grow, every, same}
-use Rattle.octets.specs.Search.{count, first_or, replace_first, replace_all, keep, index_where, any}
+use Rattle.octets.specs.Lists.{every, same}
+use Rattle.octets.specs.Search.{replace_first, keep, index_where, any}
 use Rattle.octets.specs.Text.{bytes}
 use Rattle.octets.specs.BigEndian.{big_endian_bytes, big_endian_from}
 use Rattle.octets.proofs.BigEndian.{length-be-bytes}
@@ -23,45 +23,35 @@ use Rattle.octets.proofs.Booleans.{and_left, cond_of}
 use Rattle.octets.proofs.Counting.{length-replace_first, length-replace_all}
 use Rattle.octets.proofs.Searches.{replace_first-each, replace_all-each}
 use Rattle.octets.proofs.Lists.{same_refl, same-eq}
-use Rattle.encoding.specs.Hex.{hex_text, hex_digit, hex_value, is_handle_text, unhex, read_handle}
-use Rattle.encoding.specs.Base64.{read_digest, is_digest_text, base64_text, digit64, is_base64, base64_bytes, group_bytes, sound_group, sextet, none}
-use Rattle.sha256.specs.Functions.{rotr, ch, maj, big_sigma, small_sigma}
-use Rattle.sha256.specs.Constants.{round_constants, initial_hash}
-use Rattle.sha256.specs.Digest.{padding, padded_message, block_words, schedule_word, next_word, extended, schedule, first_sum, second_sum, round, rounds, added, compressed, hashed, words_bytes, state_bytes, digest}
-use Rattle.form_coding.specs.Coding.{decode_after, first_byte, extra, is_escape, plain, well_formed, sound, encode as encode_form, encode_byte}
-use Rattle.form.specs.Content.{is_well_formed_form, piece_name, piece_value, gives, add, value_in, form_value, is_missing, is_repeated, only_value, is_once}
-use Rattle.scope.specs.Set.{names}
-use Rattle.scope.specs.Value.{bit_from, bit_of, union, read_scope, chosen, spaced, scope_text}
-use Rattle.client_registry.specs.Sample.{sample_confidential, sample_public, sample_clients, sample_registry}
-use Rattle.client_registry.specs.Registry.{clients_of, distinct}
-use Rattle.token_store.specs.Store.{kind_code, kind_bound_code, code_kind, no_link, is_bound_code, is_challenged, free_slot, Store, encode, decode, fresh, slot_of, is_vacant, concat, encode_slot, with_slots, with_time, is_sought, comes_from}
+use Rattle.encoding.specs.Hex.{read_handle, presents}
+use Rattle.encoding.specs.Base64.{read_digest, base64_text, digit64}
+use Rattle.form_coding.specs.Coding.{sound}
+use Rattle.client_registry.specs.Sample.{sample_clients, sample_registry}
+use Rattle.client_registry.specs.Registry.{clients_of}
+use Rattle.token_store.specs.Store.{kind_code, kind_bound_code, code_kind, no_link, is_bound_code, is_challenged, free_slot, Store, encode, decode, fresh, slot_of, is_vacant, concat, encode_slot, with_slots, with_time, is_sought}
 use Rattle.token_store.specs.Fit.{fit_link}
 use Rattle.token_store.specs.Layout.{time_size, slot_count}
 use Rattle.token_store.specs.declared.Slot.{Slot}
 use Rattle.token_store.specs.declared.Sought.TheVariants.{Code as sought_code, Refresh as sought_refresh, Token as sought_token}
 use Rattle.token_store.proofs.Slots.{free-fits, sought-used}
 use Rattle.token_store.proofs.Fits.{fit_free, fit-used}
-use Rattle.protocol.specs.Answers.{word_text, is_grant}
-use Rattle.protocol.specs.Refusals.{first_of}
-use Rattle.protocol.specs.Requests.{asked_by, scope_asked, fits, scope_given, unless_refused}
-use Rattle.protocol.specs.Authorization.{challenge_given, is_bad_challenge, is_bad_query, query_client, is_bad_client, is_bad_redirect, is_sound_state, is_bad_state, is_invalid_request, is_other_type, is_invalid_scope, code_asked, page_reasons, redirect_reasons, read_authorization, separator, state_text, location, code_parameter, error_parameter, location_text}
-use Rattle.protocol.specs.ClientForms.{is_invalid_form, lower_case, same_any_case, credentials, is_bad_header, header_id, header_secret, presented_id, presented_secret, is_unclear_id, is_impostor, call_client, is_invalid_client, form_reasons}
-use Rattle.protocol.specs.Token.{is_sound_verifier, challenge_answered, read_exchange, read_refresh, read_credentials, read_grant, error_reply, refusal_reply, token_reply, refresh_member, challenges, read_token}
-use Rattle.protocol.specs.Revocation.{read_revocation, revocation_reply}
-use Rattle.protocol.specs.Granting.{refused_plan, code_plan, exchange_plan, refresh_plan, credentials_plan, revocation_plan, plan_for, slots_by, check_slots}
-use Rattle.protocol.specs.Outcomes.{Handed, reply_text, serve_authorization, serve_token, serve_revocation, serve_check}
+use Rattle.protocol.specs.Requests.{fits}
+use Rattle.protocol.specs.Granting.{is_issued_on}
+use Rattle.protocol.specs.Outcomes.{Handed}
+use Rattle.protocol.proofs.Computing.{text_definitions, registry_definitions, digest_definitions, endpoint_definitions}
 use Rattle.protocol.proofs.Starred.{count_up, rfc_query}
-use Rattle.history.specs.Contents.{standing_after, with_event, code_issue, exchange_issues, refresh_issues, own_issue, issued_by, is_spent_by, is_second_showing, code_shown, is_withdrawn_by, is_revoked_by, no_issue, is_within_granted, none_beyond, asked_or, names_or, value_of, Issue, Contents, nothing_yet, with_events, twenties, is_exchange, is_refresh, is_credentials, id_in, is_admitted}
-use Rattle.history.specs.Claim.{is_repeated_by, is_answered_by, verifies, is_verifier_for, may_refresh, may_pass, may_exchange, may_have_own, Demand3, CredentialsYield}
-use Rattle.history.specs.Server.{is_unfit, is_unfit_decision, is_unfit_refusal, is_unfit_check, is_granted, length_of, is_passed, named_in, is_live_check, named_by, ours}
+use Rattle.history.specs.Contents.{standing_after, with_event, is_second_showing, is_withdrawn_by, value_of, Issue, Contents, nothing_yet, with_events, is_exchange, is_refresh, is_credentials, is_admitted}
+use Rattle.history.specs.Claim.{may_refresh, may_pass, may_exchange, Demand3, CredentialsYield}
+use Rattle.history.specs.Server.{ours}
 use Rattle.history.specs.Calls.{Call, authorization, token, revocation, check, handed_to, WellTyped, AllWellTyped, Result, Server, events, fresh_store}
-use Rattle.history.proofs.AnyCall.{outcome_on, asked, unfit_to, left_by, store-on}
+use Rattle.history.proofs.Computing.{claim_definitions, server_definitions}
+use Rattle.history.proofs.AnyCall.{left_by, store-on}
 use Rattle.history.proofs.SoundStores.{SoundSlot, AllSound, sound-used, used-fields, sound_back, sound-fresh}
 use Rattle.history.proofs.Readings.{FieldsFit}
 use Rattle.history.proofs.AllCalls.{fresh-bytes}
 use Rattle.history.proofs.CallsOnRecords.{result_on, is_fitting}
 use Rattle.history.proofs.Sample.{tested-bytes, SoundSample, sample-served, sample-left}
-use Rattle.history.proofs.Examples.{handed_at, authorize_at, header, exchange_of, repeating, by_barnapp, token_at, code_text, access_text, refresh_text, exchange_at, refresh_for, challenge_text, verifying, challenged_visit, visit, night, is_typed, own_for, own_text, revoke_at, revoking, barn_revoking}
+use Rattle.history.proofs.Examples.{handed_at, authorize_at, header, repeating, by_barnapp, token_at, code_text, access_text, refresh_text, exchange_at, refresh_for, challenge_text, verifying, challenged_visit, visit, night, is_typed, own_for, own_text, revoke_at, revoking, barn_revoking, call_definitions}
 use Rattle.history.proofs.Visit.{tested-calls}
 use Rattle.history.proofs.ServersOnRecords.{Model, Follows, left_after, events_after, contained_after, all, is_named_wrongly, exchanges_wrongly, refreshes_wrongly, exchange_replies_wrongly, refresh_replies_wrongly, credentials_wrongly, credentials_replies_wrongly, passes_wrongly, names_wrongly, locates_wrongly, measures_wrongly, spends_slot, unequal, exchange-fails, refresh-fails, exchange-reply-fails, refresh-reply-fails, credentials-fails, credentials-reply-fails, pass-fails, name-fails, locate-fails, measure-fails, spend-fails}
 use Rattle.history.proofs.UselessServers.{answering, one_more, invented_seconds, not_passed, never_passes, unwritten, writes_nothing, unmeasured, says_no_length, leaving, untouched, leaving_from, code_in, spent, spends_on_refusal, spent_unanswered, spends_unanswered, put_back, code_twice, unkept, forgets_own, unwithdrawn, keeps_tokens, withdrawn, withdraws_for_anyone, revoked_as, token_in, not_revoked, revokes_nothing, access_left, leaves_access, anyone_revokes, revokes_for_anyone, handed_clock, seen_as, seeing, wide, widens_scope, bare, unasked, ignores_verifier, plainly, takes_challenge, stock, first_only, yields_always, refuses_everyone}
@@ -187,7 +177,7 @@ unfolding withdrawn
 sound-withdrawn (authorization query decision farm handed) granted before after b a = a
 sound-withdrawn (token header body handed) true before after b a = a
 sound-withdrawn (token header body handed) false before after b a =
-    let from = comes_from sought_token (read_handle (value_of body (bytes "code"))).bytes in
+    let from = is_issued_on (read_handle (value_of body (bytes "code"))) in
     record {
       size = length-replace_all free_slot from after.slots ∙ a.size;
       early = a.early;
@@ -284,7 +274,7 @@ sound-unasked body s w = cond_of (SoundSlot (length sample_clients)) (is_challen
 
 sound-plainly : (body : List ℕ) → KeepsSound (plainly body)
 sound-plainly body s w =
-    let is = same (read_digest (value_of body (bytes "code_verifier"))).bytes s.link in
+    let is = presents (read_digest (value_of body (bytes "code_verifier"))) s.link in
     cond_of (SoundSlot (length sample_clients)) (is_challenged s && is) (bare s) s (λ e. sound-bare s (and_left (is_challenged s) is e) w) (λ _. w)
 
 module _ (is_grant_type : List ℕ → Bool) (f : List ℕ → Slot → Slot) (keeps : (body : List ℕ) → KeepsSound (f body))
@@ -474,7 +464,7 @@ record Computed : Type 0 where
   refuses : token_tests (stock_model false) [] credentials_wrongly (own_for []) 1100 0x20 ≡ true
 
 computed : Computed
-unfolding revoked_as revoked revoked_by_other revoke_at revoking barn_revoking is_revoked_by read_revocation revocation_reply revocation_plan serve_revocation verifies is_verifier_for read_digest is_digest_text is_sound_verifier base64_text digit64 big_endian_bytes big_endian_from rotr ch maj big_sigma small_sigma round_constants initial_hash padding padded_message block_words schedule_word next_word extended schedule first_sum second_sum round rounds added compressed hashed words_bytes state_bytes digest is_answered_by challenge_given is_bad_challenge challenge_answered first_wrong untouched_model spent put_back unkept unwithdrawn withdrawn shown_again shown_by_other seen_as spent_unanswered challenged_visit challenge_text verifying itself own_for own_text wrong_try tried exchanged wider again unanswered challenge_shown visit night handed_at authorize_at header exchange_of repeating by_barnapp token_at code_text access_text refresh_text exchange_at refresh_for is_typed unfit_to is_fitting is_named_wrongly left_after events_after rfc_query handed_to asked outcome_on with_events with_event is_unfit is_unfit_decision is_unfit_refusal is_unfit_check is_granted length_of is_passed named_in is_live_check named_by standing_after issued_by code_issue exchange_issues refresh_issues own_issue is_spent_by is_second_showing code_shown is_withdrawn_by no_issue is_within_granted none_beyond asked_or names_or is_admitted id_in is_repeated_by may_exchange may_refresh may_have_own may_pass twenties distinct keep count any first_or replace_first replace_all free_slot fresh every same index_of split_on grow hex_text hex_digit hex_value read_handle is_handle_text unhex is_base64 base64_bytes group_bytes sound_group sextet none encode_form encode_byte decode_after first_byte extra is_escape plain well_formed sound is_well_formed_form piece_name piece_value gives add value_in form_value names bit_from bit_of union read_scope chosen spaced scope_text index_where sample_clients sample_confidential sample_public is_grant is_missing is_repeated only_value is_once asked_by scope_asked fits scope_given is_bad_query query_client is_bad_client is_bad_redirect is_sound_state is_bad_state is_invalid_request is_other_type is_invalid_scope code_asked page_reasons redirect_reasons read_authorization separator state_text location code_parameter error_parameter location_text is_invalid_form lower_case same_any_case credentials is_bad_header header_id header_secret presented_id presented_secret is_unclear_id is_impostor call_client is_invalid_client form_reasons read_exchange read_refresh read_credentials read_grant read_token word_text error_reply refusal_reply token_reply refresh_member challenges reply_text first_of unless_refused refused_plan code_plan exchange_plan refresh_plan credentials_plan plan_for slots_by check_slots serve_authorization serve_token serve_check
+unfolding text_definitions registry_definitions digest_definitions endpoint_definitions claim_definitions server_definitions call_definitions revoked_as revoked revoked_by_other base64_text digit64 big_endian_from first_wrong untouched_model spent put_back unkept unwithdrawn withdrawn shown_again shown_by_other seen_as spent_unanswered itself wrong_try tried exchanged wider again unanswered challenge_shown is_typed is_named_wrongly left_after events_after keep free_slot fresh
 computed = record {
   visit-typed = refl;
   visit-fits = refl;

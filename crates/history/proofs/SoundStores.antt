@@ -5,9 +5,10 @@
 -- (`sound-after`).
 -- Assumes nothing.
 use mathlib.Core.Path.{◌≡◌, refl, sym, ap, ◌∙◌}
-use mathlib.Core.Bool.{Bool, true, false, cond, ◌||◌}
+use mathlib.Core.Bool.{Bool, true, false, cond}
 use mathlib.Core.List.{List, [], ◌∷◌, map}
 use Prim.Native.Nat.{ℕ, suc, ◌+◌, ◌-◌, ◌*◌, ◌^◌, ◌≤◌, ◌<◌}
+use Rattle.std.specs.Prelude.{Ok, Err, Option, Some, None}
 use native.Mathlib.Omega.{arith}
 use lib.Dec.{eqb, ltb, lit≤, lit<}
 use lib.ListN.{length, take, drop, get_or, replicate, length-append, length-drop, length-replicate}
@@ -17,11 +18,9 @@ use Rattle.octets.specs.BigEndian.{big_endian_bytes}
 use Rattle.octets.proofs.BigEndian.{length-be-bytes}
 use Rattle.octets.proofs.Booleans.{cond_of, and_left}
 use Rattle.octets.proofs.Lists.{each-replicate, zero-bytes}
-use Rattle.encoding.specs.declared.DigestText.{DigestText}
-use Rattle.encoding.specs.declared.HandleText.{HandleText}
 use Rattle.token_store.specs.Layout.{time_size, slot_count, handle_size, link_size, expiry_size, slot_size, store_size, slot_start, latest_time}
 use Rattle.octets.specs.Search.{first_or, replace_first, replace_all}
-use Rattle.token_store.specs.Store.{issue, Store, SlotFits, SlotsFit, kind_access, kind_refresh, kind_last, is_used, is_token, is_live, is_vacant, link_to, origin_of, free_slot, spent_code, fresh, concat, encode_slot, decode_slot, encode, decode, sought_key, comes_from, without_tokens}
+use Rattle.token_store.specs.Store.{issue, Store, SlotFits, SlotsFit, kind_access, kind_refresh, kind_last, is_used, is_token, is_live, is_vacant, link_to, origin_of, free_slot, spent_code, fresh, concat, encode_slot, decode_slot, encode, decode, sought_key}
 use Rattle.token_store.specs.Fit.{fit_link, fit_slot, fit_store}
 use Rattle.token_store.specs.declared.Slot.{Slot}
 use Rattle.token_store.specs.declared.Sought.{Sought}
@@ -30,14 +29,13 @@ use Rattle.octets.proofs.Searches.{every-each, each-every, replace_first-each, r
 use Rattle.token_store.proofs.Slots.{slot-back, free_bytes, free-fits}
 use Rattle.token_store.proofs.Codec.{length-slots, slots-fit, encode-decode, decode-encode, piece-at, decode-fresh}
 use Rattle.token_store.proofs.Fits.{fit-used, used-fit, fit_free, fit-size, fit-time, fit-slots, fit-encode}
-use Rattle.protocol.specs.declared.Decision.{Decision}
-use Rattle.protocol.specs.declared.Decision.TheVariants.{Grant, Refuse}
 use Rattle.protocol.specs.declared.CodeRequest.{CodeRequest}
 use Rattle.protocol.specs.declared.Request.{Request}
 use Rattle.protocol.specs.declared.Request.TheVariants.{Refused, Code, Exchange, Refresh, Credentials, Revocation}
-use Rattle.protocol.specs.Answers.{is_grant}
-use Rattle.protocol.specs.Granting.{Plan, first_handle, shown_slot, is_shown_again, without_shown, revoked_slots, new_code, token_on, refused_plan, code_plan, exchange_plan, refresh_plan, credentials_plan, revocation_plan, plan_for, decision_on, slots_by, slots_after}
+use Rattle.protocol.specs.Answers.{is_grant, Decision}
+use Rattle.protocol.specs.Granting.{Plan, first_handle, shown_slot, is_shown_again, without_shown, revoked_slots, new_code, token_on, plan_for, decision_on, slots_by, slots_after, without_issued_on, is_issued_on}
 use Rattle.octets.proofs.Counting.{length-replace_first, length-replace_all}
+use Rattle.protocol.proofs.Computing.{plan_definitions}
 use Rattle.history.proofs.Challenges.{FitChallenge}
 use Rattle.history.proofs.Readings.{FieldsFit, scope-given, Brings}
 use Rattle.history.proofs.OneRequest.{Granted, exchange-has, refresh-has}
@@ -178,8 +176,8 @@ found-sound {clients} p (s ∷ slots) w = by (p s) (found-sound p slots (λ k. w
     by true r = w 0
     by false r = r
 
-module _ {clients : ℕ} (few : clients ≤ 64) {t : ℕ} (early : t ≤ latest_time) (random : List ℕ) (twenties : List (List ℕ)) (p : HandleText)
-    (d : DigestText) (g : Store) (w : Sound clients g) where
+module _ {clients : ℕ} (few : clients ≤ 64) {t : ℕ} (early : t ≤ latest_time) (random : List ℕ) (twenties : List (List ℕ)) (p : Option (List ℕ))
+    (d : Option (List ℕ)) (g : Store) (w : Sound clients g) where
   abbrev slots : List Slot
   slots = g.slots
 
@@ -201,16 +199,15 @@ module _ {clients : ℕ} (few : clients ≤ 64) {t : ℕ} (early : t ≤ latest_
   code-sound : (r : CodeRequest) → 20 ≤ length random → FieldsFit clients r.client r.farm r.scope → FitChallenge d
       → SoundSlot clients (new_code t (first_handle random) d r)
   unfolding fit_link
-  code-sound r h f fit = by r.bound d.valid fit.filled
+  code-sound r h f fit = by r.bound d fit
     where
-      by : (b c : Bool) → (c || every is_zero d.bytes) ≡ true
+      by : (b : Bool) (c : Option (List ℕ)) → FitChallenge c
           → SoundSlot clients
-          (new_code t (first_handle random) (record { valid = c; bytes = d.bytes })
-          (record { client = r.client; farm = r.farm; scope = r.scope; bound = b }))
-      by true true e = sound-used clients _ refl few (lit≤ tt) (length-take-le handle_size random h) (omega arith) f (fit.size, e)
-      by true false e = sound-used clients _ refl few (lit≤ tt) (length-take-le handle_size random h) (omega arith) f (fit.size, e)
-      by false true e = sound-used clients _ refl few (lit≤ tt) (length-take-le handle_size random h) (omega arith) f (fit.size, e)
-      by false false e = sound-used clients _ refl few (lit≤ tt) (length-take-le handle_size random h) (omega arith) f (fit.size, e)
+          (new_code t (first_handle random) c (record { client = r.client; farm = r.farm; scope = r.scope; bound = b }))
+      by true (Some x) e = sound-used clients _ refl few (lit≤ tt) (length-take-le handle_size random h) (omega arith) f (e.size, e.filled)
+      by true None e = sound-used clients _ refl few (lit≤ tt) (length-take-le handle_size random h) (omega arith) f (e.size, e.filled)
+      by false (Some x) e = sound-used clients _ refl few (lit≤ tt) (length-take-le handle_size random h) (omega arith) f (e.size, e.filled)
+      by false None e = sound-used clients _ refl few (lit≤ tt) (length-take-le handle_size random h) (omega arith) f (e.size, e.filled)
 
   issue-each : (s : Slot) (l : List Slot) → SoundSlot clients s → AllSound clients l → AllSound clients (issue t s l)
   issue-each s l new old = replace_first-each (is_vacant t) free_slot (SoundSlot clients) s new l old
@@ -238,7 +235,7 @@ module _ {clients : ℕ} (few : clients ≤ 64) {t : ℕ} (early : t ≤ latest_
 
   granted-each : (request : Request) → Brings clients random twenties d request → Granted t slots random p d request
       → AllSound clients (plan_for t slots random p d request).granted
-  unfolding plan_for refused_plan code_plan exchange_plan refresh_plan credentials_plan revocation_plan Brings
+  unfolding plan_definitions Brings
   granted-each (Refused r) q e = w.slots
   granted-each (Code r) q e = issue-each _ slots (code-sound r (omega (arith, q.0.size)) q.1 q.2) w.slots
   granted-each (Exchange r) q e =
@@ -267,7 +264,7 @@ module _ {clients : ℕ} (few : clients ≤ 64) {t : ℕ} (early : t ≤ latest_
   granted-each (Revocation r) q e = revoked-each
 
   granted-size : (request : Request) → length (plan_for t slots random p d request).granted ≡ length slots
-  unfolding plan_for refused_plan code_plan exchange_plan refresh_plan credentials_plan revocation_plan
+  unfolding plan_definitions
   granted-size (Refused r) = refl
   granted-size (Code r) = simp length-replace_first
   granted-size (Exchange r) = simp length-replace_first
@@ -277,26 +274,26 @@ module _ {clients : ℕ} (few : clients ≤ 64) {t : ℕ} (early : t ≤ latest_
 
   -- a refusal frees slots at the most
   denied-each : (request : Request) → AllSound clients (plan_for t slots random p d request).denied
-  unfolding plan_for refused_plan code_plan exchange_plan refresh_plan credentials_plan revocation_plan
+  unfolding plan_definitions
   denied-each (Refused r) = w.slots
   denied-each (Code r) = w.slots
   denied-each (Exchange r) = by (is_shown_again t r.client p slots)
     where
-      by : (b : Bool) → AllSound clients (cond b (without_tokens sought_token p.bytes slots) slots)
-      by true = freed-each (comes_from sought_token p.bytes) slots w.slots
+      by : (b : Bool) → AllSound clients (cond b (without_issued_on p slots) slots)
+      by true = freed-each (is_issued_on p) slots w.slots
       by false = w.slots
   denied-each (Refresh r) = w.slots
   denied-each (Credentials r) = w.slots
   denied-each (Revocation r) = w.slots
 
   denied-size : (request : Request) → length (plan_for t slots random p d request).denied ≡ length slots
-  unfolding plan_for refused_plan code_plan exchange_plan refresh_plan credentials_plan revocation_plan
+  unfolding plan_definitions
   denied-size (Refused r) = refl
   denied-size (Code r) = refl
   denied-size (Exchange r) = by (is_shown_again t r.client p slots)
     where
-      by : (b : Bool) → length (cond b (without_tokens sought_token p.bytes slots) slots) ≡ length slots
-      by true = length-replace_all free_slot (comes_from sought_token p.bytes) slots
+      by : (b : Bool) → length (cond b (without_issued_on p slots) slots) ≡ length slots
+      by true = length-replace_all free_slot (is_issued_on p) slots
       by false = refl
   denied-size (Refresh r) = refl
   denied-size (Credentials r) = refl
@@ -312,5 +309,5 @@ module _ {clients : ℕ} (few : clients ≤ 64) {t : ℕ} (early : t ≤ latest_
       plan = plan_for t slots random p d request
 
       by : (made : Decision) → (is_grant made ≡ true → AllSound clients plan.granted) → Sound clients (record { time = t; slots = slots_by made plan })
-      by Grant f = record { size = granted-size request ∙ w.size; early = early; slots = f refl }
-      by (Refuse r) f = record { size = denied-size request ∙ w.size; early = early; slots = denied-each request }
+      by (Ok tt) f = record { size = granted-size request ∙ w.size; early = early; slots = f refl }
+      by (Err r) f = record { size = denied-size request ∙ w.size; early = early; slots = denied-each request }

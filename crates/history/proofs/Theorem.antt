@@ -11,36 +11,34 @@ use mathlib.Core.Path.{◌≡◌, refl, sym, ap, ap₂, ◌∙◌, fun_ext, subs
 use mathlib.Core.Bool.{Bool, true, false, cond, not, ◌&&◌, and-true, not-not}
 use mathlib.Core.List.{List, [], ◌∷◌, Memᴰ}
 use Prim.Native.Nat.{ℕ, ◌+◌, ◌-◌, ◌<◌}
+use Rattle.std.specs.Prelude.{Ok, None, Option}
 use native.Mathlib.Omega.{arith}
 use lib.Dec.{leb, eqb}
 use lib.ListN.{length, replicate, get_or}
 use Rattle.octets.specs.Text.{bytes}
-use Rattle.octets.specs.Lists.{Bytes, part, every, same}
+use Rattle.octets.specs.Lists.{Bytes, part, every}
 use Rattle.octets.specs.Search.{count, any, replace_all}
 use Rattle.octets.proofs.Booleans.{and_left, and_right}
 use Rattle.octets.proofs.Counting.{count_map, any-map, member-map}
 use Rattle.encoding.specs.Hex.{read_handle}
-use Rattle.encoding.specs.declared.DigestText.{DigestText}
 use Rattle.form.specs.Content.{Value, missing, form_value, only_value}
 use Rattle.client_registry.proofs.Clients.{redirect-most}
 use Rattle.client_registry.specs.Registry.{Client, clients_of}
 use Rattle.client_registry.specs.Lookup.{number_of, client_at}
 use Rattle.token_store.specs.Layout.{slot_start, slot_size}
-use Rattle.token_store.specs.Store.{Store, SlotsFit, is_token, origin_of as origin_in, is_live, free_slot, encode, decode, decode_slot, sought_key, comes_from, without_tokens}
+use Rattle.token_store.specs.Store.{Store, SlotsFit, is_live, free_slot, encode, decode, decode_slot, sought_key}
 use Rattle.token_store.specs.declared.Slot.{Slot}
 use Rattle.token_store.specs.declared.Sought.TheVariants.{Token as sought_token}
-use Rattle.protocol.specs.declared.Decision.{Decision}
-use Rattle.protocol.specs.declared.Decision.TheVariants.{Grant}
 use Rattle.protocol.specs.declared.Reading.{Reading}
 use Rattle.protocol.specs.Limits.{token_random}
-use Rattle.protocol.specs.Answers.{is_grant}
+use Rattle.protocol.specs.Answers.{is_grant, Decision}
 use Rattle.protocol.specs.Refusals.{Reason, first_of}
-use Rattle.protocol.specs.Requests.{fits, scope_asked, no_handle, no_challenge, unless_refused}
+use Rattle.protocol.specs.Requests.{fits, scope_asked, unless_refused}
 use Rattle.protocol.specs.Authorization.{query_client, is_invalid_scope, location, code_parameter, location_text}
 use Rattle.protocol.specs.ClientForms.{call_client, form_reasons}
 use Rattle.protocol.specs.Token.{challenge_answered, credentials_reasons, read_credentials, read_token, token_reply, refresh_member}
 use Rattle.protocol.specs.Revocation.{revocation_names, read_revocation, revocation_reply}
-use Rattle.protocol.specs.Granting.{Plan, shown_slot, first_handle, second_handle, revoked_slots, exchange_plan, refresh_plan, credentials_plan, revocation_plan, plan_for, plan_of, decision_on, slots_by, slots_after}
+use Rattle.protocol.specs.Granting.{Plan, shown_slot, first_handle, second_handle, revoked_slots, exchange_plan, refresh_plan, credentials_plan, revocation_plan, plan_for, plan_of, decision_on, slots_by, slots_after, is_issued_on, without_issued_on}
 use Rattle.protocol.specs.Outcomes.{Handed, reply_text, without_random, serve_check}
 use Rattle.history.specs.Calls.{Call, authorization, token, revocation, check, handed_to, AllWellTyped, Result}
 use Rattle.history.specs.Server.{outcome_of, is_passed, named_in, named_by, result_of, ours}
@@ -57,7 +55,7 @@ use Rattle.history.proofs.AnyCall.{outcome_on, asked, unfit_to, is_past, seen-pa
 use Rattle.history.proofs.Written.{text_on, written_on}
 use Rattle.history.proofs.Asking.{caller-is, exchange_asked, refresh_asked, credentials_asked, exchange_reading, refresh_reading, credentials_reading, revocation_reading, unless_missing, unless-missing, exchange-read, refresh-read, credentials-read}
 use Rattle.history.proofs.Revoked.{goes_with_slot, goes-bytes, any-revocable, revoked-is, revocation-answer, revoked-held}
-use Rattle.history.proofs.SecondShowing.{is_again, denied-is, again-second, again-valid}
+use Rattle.history.proofs.SecondShowing.{is_again, denied-is, again-second}
 use Rattle.history.proofs.Shown.{is-grant, unless-granted, unless-grants, origin-shown}
 use Rattle.history.proofs.AllCalls.{store_with, Kept, kept_read, kept-all, never-tail}
 
@@ -187,7 +185,7 @@ module _ (registry : List ℕ) (small : Bytes registry) (cs : List Call) (typed 
 
     -- what is written for a reading that is granted
     reply-as : {reading : Reading} → read_token clients header body ≡ reading → is_grant (decision_on (plan reading)) ≡ true
-        → Answers handed (next ours registry cs asks) (reply_text random (plan reading) Grant)
+        → Answers handed (next ours registry cs asks) (reply_text random (plan reading) (Ok tt))
     unfolding asked handed_to text_on
     reply-as {reading} read granted =
         rw (sym (ap (λ (d : Decision). reply_text random (plan reading) d) (is-grant (decision_on (plan reading)) granted)))
@@ -211,7 +209,7 @@ module _ (registry : List ℕ) (small : Bytes registry) (cs : List Call) (typed 
       abbrev presented_code : List ℕ
       presented_code = value_of body (bytes "code")
 
-      abbrev answered : DigestText
+      abbrev answered : Option (List ℕ)
       answered = challenge_answered (form_value body (bytes "code_verifier"))
 
       read-exchange : read_token clients header body ≡ unless_missing (form_value body (bytes "code")) (exchange_reading clients header body)
@@ -263,7 +261,7 @@ module _ (registry : List ℕ) (small : Bytes registry) (cs : List Call) (typed 
       unfolding only_value
       refresh-granted =
           presented-granted (form_value body (bytes "refresh_token")) _ read-refresh
-          (λ e. rw e (refresh-none t slots random no_challenge (refresh_asked clients header body)))
+          (λ e. rw e (refresh-none t slots random None (refresh_asked clients header body)))
 
       refreshable : (e : Held) → is_refreshable clients t (standing ours registry cs) header body (as_issue clients e)
           ≡ is_refreshable_held t (read_handle token_shown) (refresh_asked clients header body) e
@@ -276,7 +274,7 @@ module _ (registry : List ℕ) (small : Bytes registry) (cs : List Call) (typed 
       unfolding may_refresh
       refresh-claim =
           refresh-granted
-          ∙ refresh-answer invariant once (read_handle token_shown) random new no_challenge (refresh_asked clients header body)
+          ∙ refresh-answer invariant once (read_handle token_shown) random new None (refresh_asked clients header body)
           ∙ ap₂ ◌&&◌ (sym (any_held _ _ refreshable)) (room-held 1)
 
       refresh-reply : (next ours registry cs asks).granted ≡ true
@@ -285,7 +283,7 @@ module _ (registry : List ℕ) (small : Bytes registry) (cs : List Call) (typed 
       unfolding reply_text plan_for refresh_plan
       refresh-reply e =
           let granted = sym refresh-granted ∙ e in
-          let live = (refresh-has t slots random (read_handle token_shown) no_challenge (refresh_asked clients header body) granted).0 in
+          let live = (refresh-has t slots random (read_handle token_shown) None (refresh_asked clients header body) granted).0 in
           rw (← (given-asked scope (origin_of refresh token_shown (standing ours registry cs)).scope), ← (scope-held refresh token_shown live))
           (reply-as (read-granted _ _ read-refresh e) granted)
 
@@ -309,7 +307,7 @@ module _ (registry : List ℕ) (small : Bytes registry) (cs : List Call) (typed 
           ≡ (client.confidential && is_within_granted (form_value body (bytes "scope")) client.scope && has_room_held 1 t held)
       credentials-granted =
           granted-as read-credentials ∙ unless-grants t slots random _ (credentials_reading clients header body)
-          ∙ ap₂ ◌&&◌ unrefused-is (credentials-answer invariant once no_handle random new no_challenge (credentials_asked clients header body))
+          ∙ ap₂ ◌&&◌ unrefused-is (credentials-answer invariant once None random new None (credentials_asked clients header body))
 
       credentials-claim : (next ours registry cs asks).granted ≡ may_have_own clients t (standing ours registry cs) header body
       unfolding may_have_own
@@ -369,7 +367,7 @@ module _ (registry : List ℕ) (small : Bytes registry) (cs : List Call) (typed 
     revocation-claim =
         done-is
         ∙ ap (λ (b : Bool). is_admitted_to_revoke clients header body && b)
-        (revocation-answer stays seen-once reading.presented [] no_challenge _ ∙ ap not (sym (any_held _ _ another)))
+        (revocation-answer stays seen-once reading.presented [] None _ ∙ ap not (sym (any_held _ _ another)))
 
     revocation-reply : (next ours registry cs revokes).granted ≡ true → Answers (without_random clock output) (next ours registry cs revokes) []
     unfolding text_on handed_to revocation_reply
@@ -396,7 +394,7 @@ module _ (registry : List ℕ) (small : Bytes registry) (cs : List Call) (typed 
       cleared-is slot =
           ap (λ (l : List Issue). is_cleared clients then l header body slot) kept.issues
           ∙ any-revocable clients then header body held _ (λ x. goes_with_slot x (decode_slot slot)) (λ x. goes-bytes clients x slot)
-          ∙ revoked-held stays seen-once reading.presented [] no_challenge _ plan-granted (decode_slot slot)
+          ∙ revoked-held stays seen-once reading.presented [] None _ plan-granted (decode_slot slot)
 
       cleared-slot : (i : ℕ) → i < slots_in_all
           → part (next ours registry cs revokes).store (slot_start i) slot_size
@@ -481,18 +479,13 @@ module _ (registry : List ℕ) (small : Bytes registry) (cs : List Call) (typed 
 
       abbrev Left : Bool → Type 0
       Left b =
-          part (encode (record { time = at; slots = cond b (without_tokens sought_token (read_handle (code_shown c)).bytes slots) slots })) (slot_start i) slot_size
+          part (encode (record { time = at; slots = cond b (without_issued_on (read_handle (code_shown c)) slots) slots })) (slot_start i) slot_size
           ≡ cond (b && holds_token_from (code_shown c) slot) (replicate 67 0) slot
 
       -- a second showing frees the tokens that came from the code, and nothing else
-      left_by : (b : Bool) → again ≡ b → Left b
-      left_by true e =
-          let handle = (read_handle (code_shown c)).bytes in
-          let holds : comes_from sought_token handle (decode_slot slot) ≡ holds_token_from (code_shown c) slot =
-          ap (λ (v : Bool). is_token (decode_slot slot) && (v && same handle (origin_in (decode_slot slot)))) (sym (again-valid clients at slots c e))
-          in
-          freed-slot (comes_from sought_token handle) at i below ∙ ap (λ (b : Bool). cond b (replicate slot_size 0) slot) holds
-      left_by false e =
+      left_by : (b : Bool) → Left b
+      left_by true = freed-slot (is_issued_on (read_handle (code_shown c))) at i below
+      left_by false =
           slots_same (record { time = at; slots = slots }) left refl i ∙ sym (ap (λ (b : List ℕ). part b (slot_start i) slot_size) kept.bytes)
 
       refused-slot : (next ours registry cs c).granted ≡ false
@@ -503,7 +496,7 @@ module _ (registry : List ℕ) (small : Bytes registry) (cs : List Call) (typed 
           ∙ ap (λ (b : List ℕ). part b (slot_start i) slot_size) (store-on clients left c)
           ∙ ap (λ (l : List Slot). part (encode (record { time = at; slots = l })) (slot_start i) slot_size)
           (refused-left clients left c (sym (ap (λ (r : Result). r.granted) (result-is c judged)) ∙ none) ∙ denied-is clients at slots (handed_to c).random c)
-          ∙ left_by again refl
+          ∙ left_by again
           ∙ ap (λ (b : Bool). cond (b && holds_token_from (code_shown c) slot) (replicate 67 0) slot) (sym second_is)
 
 -- For every registry of bytes, fit or not, and every list of calls whose random bytes are bytes and whose farm numbers have 32 bits. That

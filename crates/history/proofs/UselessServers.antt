@@ -11,10 +11,10 @@ use Rattle.octets.specs.Lists.{same}
 use Rattle.octets.specs.Search.{replace_first, index_where}
 use Rattle.octets.specs.Text.{bytes}
 use Rattle.octets.specs.BigEndian.{big_endian_bytes}
-use Rattle.encoding.specs.Hex.{read_handle}
+use Rattle.encoding.specs.Hex.{read_handle, presents}
 use Rattle.encoding.specs.Base64.{read_digest}
 use Rattle.form.specs.Content.{form_value, is_missing}
-use Rattle.token_store.specs.Store.{code_kind, no_link, is_bound_code, is_challenged, free_slot, Store, encode, decode, sought_key, slot_of, issue, with_slots, is_sought, without_tokens}
+use Rattle.token_store.specs.Store.{code_kind, no_link, is_bound_code, is_challenged, free_slot, Store, encode, decode, sought_key, slot_of, issue, with_slots, is_sought}
 use Rattle.token_store.specs.Layout.{time_size}
 use Rattle.token_store.specs.declared.Slot.{Slot}
 use Rattle.token_store.specs.declared.Sought.{Sought}
@@ -23,6 +23,7 @@ use Rattle.history.specs.Contents.{value_of, is_exchange, is_refresh, is_credent
 use Rattle.history.specs.Server.{nothing_named, ours}
 use Rattle.history.specs.Calls.{Call, authorization, token, revocation, check, handed_to, Result, Server, fresh_store}
 use Rattle.history.proofs.Examples.{header}
+use Rattle.protocol.specs.Granting.{without_issued_on}
 
 -- ---- servers that answer otherwise than ours
 
@@ -170,7 +171,7 @@ keeps_tokens = leaving_from unwithdrawn
 unfoldable pub withdrawn : Call → Bool → Store → Store → Store
 withdrawn (authorization query decision farm handed) granted before after = after
 withdrawn (token header body handed) granted before after =
-    cond granted after (with_slots after (without_tokens sought_token (read_handle (value_of body (bytes "code"))).bytes after.slots))
+    cond granted after (with_slots after (without_issued_on (read_handle (value_of body (bytes "code"))) after.slots))
 withdrawn (revocation header body clock output) granted before after = after
 withdrawn (check presented clock) granted before after = after
 
@@ -256,7 +257,7 @@ ignores_verifier = seeing is_exchange unasked
 
 -- the challenge itself is taken for a verifier, as by the method `plain`
 abbrev pub plainly : List ℕ → Slot → Slot
-plainly body s = cond (is_challenged s && same (read_digest (value_of body (bytes "code_verifier"))).bytes s.link) (bare s) s
+plainly body s = cond (is_challenged s && presents (read_digest (value_of body (bytes "code_verifier"))) s.link) (bare s) s
 
 unfoldable pub takes_challenge : Server
 takes_challenge = seeing is_exchange plainly

@@ -14,33 +14,27 @@ use lib.Dec.{ltb, lit<}
 use lib.Seq.{sets}
 use lib.ListN.{length, take, replicate, get_or}
 use Rattle.octets.specs.Text.{bytes}
-use Rattle.octets.specs.Lists.{part, every, same, index_of, split_on, grow}
-use Rattle.octets.specs.Search.{count, keep, index_where, any, first_or}
+use Rattle.octets.specs.Lists.{part, every}
+use Rattle.octets.specs.Search.{keep}
 use Rattle.octets.proofs.Booleans.{and_left, and_right, to-T, of-T-equal}
-use Rattle.encoding.specs.Hex.{hex_text, hex_digit, hex_value}
-use Rattle.encoding.specs.Base64.{is_base64, base64_bytes, group_bytes, sound_group, sextet, none}
-use Rattle.form_coding.specs.Coding.{decode_after, first_byte, extra, is_escape, plain, well_formed, sound, encode, encode_byte}
-use Rattle.form.specs.Content.{form_value, is_well_formed_form, piece_name, piece_value, gives, add, value_in, is_missing, is_repeated, only_value, is_once}
-use Rattle.scope.specs.Set.{names}
-use Rattle.scope.specs.Value.{bit_from, bit_of, union, read_scope, chosen, spaced, scope_text}
+use Rattle.form.specs.Content.{form_value}
 use Rattle.client_registry.specs.Registry.{Client, clients_of, distinct}
 use Rattle.client_registry.specs.Lookup.{number_of, client_at}
-use Rattle.client_registry.specs.Sample.{sample_confidential, sample_public, sample_clients, sample_registry}
+use Rattle.client_registry.specs.Sample.{sample_clients, sample_registry}
 use Rattle.token_store.specs.Store.{encode as encode_store, fresh}
-use Rattle.protocol.specs.Refusals.{first_of}
-use Rattle.protocol.specs.Requests.{asked_by, scope_asked, unless_refused}
-use Rattle.protocol.specs.Authorization.{location, code_parameter, is_sound_state, separator, state_text}
-use Rattle.protocol.specs.ClientForms.{is_invalid_form, lower_case, same_any_case, credentials, is_bad_header, header_id, header_secret, presented_id, presented_secret, is_unclear_id, is_impostor, call_client, is_invalid_client, form_reasons}
-use Rattle.protocol.specs.Token.{read_token, token_reply, refresh_member, read_exchange, read_refresh, read_grant}
+use Rattle.protocol.specs.Authorization.{location, code_parameter}
+use Rattle.protocol.specs.Token.{token_reply, refresh_member}
 use Rattle.protocol.specs.Outcomes.{Handed, without_random}
+use Rattle.protocol.proofs.Computing.{text_definitions, registry_definitions, decision_definitions, authorization_definitions, client_definitions, token_definitions}
 use Rattle.protocol.proofs.Cases.{challenge}
 use Rattle.protocol.proofs.Starred.{count_up, rfc_query}
 use Rattle.history.specs.Calls.{Call, authorization, token, revocation, check, WellTyped, AllWellTyped, Result, store_after_all, events, fresh_store, handed_to}
-use Rattle.history.specs.Contents.{code, access, refresh, Issue, is_a, is_live_at, is_of, origin_of, value_of, is_exchange, is_refresh, is_credentials, asked_or, id_in, caller, is_admitted, is_admitted_to_revoke, is_revocable, issued_by, is_second_showing, code_shown, first_twenty, last_twenty, Contents, nothing_yet, with_events, twenties, no_issue, none_beyond, is_within_granted, names_or}
+use Rattle.history.specs.Contents.{code, access, refresh, Issue, is_a, is_live_at, is_of, origin_of, value_of, is_exchange, is_refresh, is_credentials, asked_or, caller, is_admitted, is_admitted_to_revoke, is_revocable, issued_by, is_second_showing, code_shown, first_twenty, last_twenty, Contents, nothing_yet, with_events, twenties}
 use Rattle.history.specs.Slots.{slots_in_all, holds_token_from}
-use Rattle.history.specs.Claim.{may_exchange, may_refresh, may_have_own, may_revoke, is_cleared, may_pass, Answers, contained, next, Judged, Asks, Demand3, is_repeated_by, is_answered_by, verifies}
+use Rattle.history.specs.Claim.{may_exchange, may_refresh, may_have_own, may_revoke, is_cleared, may_pass, Answers, contained, next, Judged, Asks, Demand3}
 use Rattle.history.specs.Revoked.{GotFrom, IsRevoked}
 use Rattle.history.specs.Server.{ours}
+use Rattle.history.proofs.Computing.{claim_definitions}
 use Rattle.history.proofs.SoundStores.{sound-fresh}
 use Rattle.history.proofs.AnyCall.{unfit_to}
 use Rattle.history.proofs.AllCalls.{fresh-bytes}
@@ -49,7 +43,7 @@ use Rattle.history.proofs.ForGood.{revoked-for-good}
 use Rattle.history.proofs.CallsOnRecords.{result_on, left_by_all, events_on, is_fitting, Replayed, replay, replay-result, replay-fit}
 pub use Rattle.history.proofs.Sample.{sample-clients, sample-bytes}
 use Rattle.history.proofs.Sample.{sample-fit, tested-bytes, distinct-never}
-use Rattle.history.proofs.Examples.{exchange_visit, in_exchange_visit, gone, revoke_at, revoking, barn_revoking, farewell, in_farewell, barn_try, challenge_text, in_visit, asking, exchange_at, authorize_at, code_text, less_text, refresh_text, again_text, barn_query, barn_access, barn_body, handed_at, header, coded_header, exchange_of, repeating, token_at, refresh_for, visit, day, evening, leak, Case, Cases, cases, yields, may, is_typed, is_asked, is_judged, left_in, contained_in, in_day, in_evening, in_leak, claim_agrees, agrees_on, agrees, computed, access_text, barn_code, barn_text, barn_token, code_until, redirect, token_until, own_for, own_text, less_own_text, pumps, own_until, in_pumps}
+use Rattle.history.proofs.Examples.{exchange_visit, in_exchange_visit, gone, revoke_at, revoking, barn_revoking, farewell, in_farewell, barn_try, in_visit, asking, exchange_at, authorize_at, code_text, less_text, refresh_text, again_text, barn_query, barn_access, handed_at, header, coded_header, exchange_of, repeating, token_at, refresh_for, visit, day, evening, leak, Case, Cases, cases, yields, may, is_typed, is_asked, is_judged, left_in, contained_in, in_day, in_evening, in_leak, claim_agrees, agrees_on, agrees, computed, access_text, barn_code, barn_text, barn_token, code_until, redirect, token_until, own_for, own_text, pumps, own_until, in_pumps, call_definitions}
 
 -- ---- what the claim speaks of
 
@@ -456,7 +450,7 @@ abbrev left_of : ℕ → List Bool → List ℕ
 left_of i goes = cond (get_or goes i false) (replicate 67 0) (day_slot i)
 
 pub shown : Shown
-unfolding in_exchange_visit revoke_at revoking barn_revoking the_farewell in_farewell is_admitted_to_revoke may_revoke the_leak in_leak is_second_showing code_shown may_pass the_pumps own_for own_text less_own_text own_until in_pumps may_have_own the_visit the_day the_evening in_visit barn_text redirect code_until token_until barn_code in_day barn_body barn_token barn_access in_evening is_typed is_asked is_judged handed_at authorize_at header exchange_of repeating token_at code_text access_text refresh_text exchange_at refresh_for barn_query again_text less_text rfc_query handed_to unfit_to is_fitting no_issue none_beyond is_within_granted names_or asked_or twenties id_in is_admitted is_repeated_by is_answered_by verifies barn_try challenge_text may_exchange may_refresh distinct count any first_or every same index_of split_on grow hex_text hex_digit hex_value is_base64 base64_bytes group_bytes sound_group sextet none decode_after first_byte extra is_escape plain well_formed sound encode encode_byte is_well_formed_form piece_name piece_value gives add value_in form_value names bit_from bit_of union read_scope chosen spaced scope_text index_where sample_clients sample_confidential sample_public is_missing is_repeated only_value is_once asked_by scope_asked is_sound_state separator state_text location code_parameter is_invalid_form lower_case same_any_case credentials is_bad_header header_id header_secret presented_id presented_secret is_unclear_id is_impostor call_client is_invalid_client form_reasons read_exchange read_refresh read_grant read_token token_reply refresh_member first_of unless_refused
+unfolding text_definitions registry_definitions decision_definitions authorization_definitions client_definitions token_definitions claim_definitions call_definitions in_exchange_visit the_farewell in_farewell the_leak in_leak the_pumps own_until in_pumps the_visit the_day the_evening in_visit redirect code_until token_until barn_code in_day barn_token barn_access in_evening is_typed is_asked is_judged unfit_to is_fitting
 shown = record {
   in-time = record { exchange = refl; asked = refl; judged = refl; says = refl };
   too-late = record { exchange = refl; asked = refl; judged = refl; says = refl };

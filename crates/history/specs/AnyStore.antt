@@ -3,7 +3,7 @@
 -- "Whatever bytes, tables and clock it is handed, the desk answers and stops. It checks its own inputs and trusts no
 -- caller to have done so.": nothing is asked of a call, a registry or a store but that its bytes are bytes and a farm
 -- number has 32 bits. Which inputs are unfit, and what is answered then, the claim says in its own words.
-use Rattle.std.specs.Prelude.{ℕ, ◌^◌, ◌≤◌, ◌<◌, max, ◌≡◌, Bool, true, false, cond, not, ◌&&◌, ◌||◌, List, [], ◌∷◌, ◌++◌, ltb, eqb, length, take, drop, replicate}
+use Rattle.std.specs.Prelude.{ℕ, ◌^◌, ◌≤◌, ◌<◌, max, ◌≡◌, Bool, true, false, cond, not, ◌&&◌, ◌||◌, List, [], ◌∷◌, ◌++◌, ltb, eqb, length, take, drop, replicate, Ok, Err}
 use Rattle.std.proofs.lemmas.List.Edits.{sets}
 use Rattle.octets.specs.Text.{bytes}
 use Rattle.octets.specs.Search.{any, first_or}
@@ -20,10 +20,8 @@ use Rattle.protocol.specs.declared.Input.TheVariants.{Buffers, Registry, Store, 
 use Rattle.protocol.specs.declared.Refusal.{Refusal}
 use Rattle.protocol.specs.declared.ErrorWord.TheVariants.{InvalidGrant}
 use Rattle.protocol.specs.declared.Refusal.TheVariants.{Unfit, Token}
-use Rattle.protocol.specs.declared.Decision.{Decision}
-use Rattle.protocol.specs.declared.Decision.TheVariants.{Grant, Refuse}
 use Rattle.protocol.specs.declared.CheckAnswer.TheVariants.{Refused}
-use Rattle.protocol.specs.Answers.{input_number, refusal_status}
+use Rattle.protocol.specs.Answers.{input_number, refusal_status, Decision}
 use Rattle.protocol.specs.Authorization.{query_client, location_text}
 use Rattle.protocol.specs.Token.{refusal_reply, challenges}
 use Rattle.protocol.specs.Outcomes.{Handed, Outcome}
@@ -67,10 +65,10 @@ pub record FirstUnfit (registry store : List ℕ) (c : Call) (i : Input) : Type 
 
 -- the answer: a number alone, with length 0 and no challenge, where there is one
 abbrev pub unfit_token : Input → Answer
-unfit_token i = token_answer (record { decision = Refuse (Unfit i); challenge = false; length = 0 })
+unfit_token i = token_answer (record { decision = Err (Unfit i); challenge = false; length = 0 })
 
 unfoldable pub unfit_answer : Call → Input → Answer
-unfit_answer (authorization query decision farm handed) i = authorization_answer (record { decision = Refuse (Unfit i); length = 0 })
+unfit_answer (authorization query decision farm handed) i = authorization_answer (record { decision = Err (Unfit i); length = 0 })
 unfit_answer (token header body handed) i = unfit_token i
 unfit_answer (revocation header body clock output) i = unfit_token i
 unfit_answer (check presented clock) i = check_answer (Refused (Unfit i))
@@ -86,21 +84,21 @@ unfit_outcome store c i = record { answer = unfit_answer c i; output = (handed_t
 unfoldable pub decision_in : Answer → Decision
 decision_in (authorization_answer a) = a.decision
 decision_in (token_answer a) = a.decision
-decision_in (check_answer a) = Grant
+decision_in (check_answer a) = Ok tt
 
 unfoldable pub refusal_text : List Client → Call → Refusal → List ℕ
 refusal_text clients (authorization query decision farm handed) r =
-    location_text (client_at clients (query_client clients query)).redirect (form_value query (bytes "state")) [] (Refuse r)
+    location_text (client_at clients (query_client clients query)).redirect (form_value query (bytes "state")) [] (Err r)
 refusal_text clients (token header body handed) r = refusal_reply r
 refusal_text clients (revocation header body clock output) r = refusal_reply r
 refusal_text clients (check presented clock) r = []
 
 -- an answer to a call that may have come with a header
 abbrev pub refused_token : List ℕ → Refusal → ℕ → Answer
-refused_token header r long = token_answer (record { decision = Refuse r; challenge = challenges (refusal_status r) header; length = long })
+refused_token header r long = token_answer (record { decision = Err r; challenge = challenges (refusal_status r) header; length = long })
 
 unfoldable pub refusal_answer : Call → Refusal → ℕ → Answer
-refusal_answer (authorization query decision farm handed) r long = authorization_answer (record { decision = Refuse r; length = long })
+refusal_answer (authorization query decision farm handed) r long = authorization_answer (record { decision = Err r; length = long })
 refusal_answer (token header body handed) r long = refused_token header r long
 refusal_answer (revocation header body clock output) r long = refused_token header r long
 refusal_answer (check presented clock) r long = check_answer (Refused r)
@@ -160,7 +158,7 @@ module _ (registry store : List ℕ) (c : Call) where
     -- "and change nothing at all"
     pub unfit : (i : Input) → FirstUnfit registry store c i → done ≡ unfit_outcome store c i
     -- "every later refusal has its one fixed answer"
-    pub answers : (r : Refusal) → is_unfit done.answer ≡ false → decision_in done.answer ≡ Refuse r
+    pub answers : (r : Refusal) → is_unfit done.answer ≡ false → decision_in done.answer ≡ Err r
         → let text = refusal_text (clients_of registry) c r in
         (done.answer ≡ refusal_answer c r (length text)) × (done.output ≡ sets output 0 text)
     -- "and changes nothing in the ledger but the highest clock seen"; nor does any answer of the check. "that one refusal changes
@@ -169,7 +167,7 @@ module _ (registry store : List ℕ) (c : Call) where
         → done.store ≡ with_clock (handed_to c).clock (after_refusal (clients_of registry) store c)
     -- of which "the answer is still `invalid_grant`"
     pub shown_twice : is_unfit done.answer ≡ false → is_shown_twice (clients_of registry) store c ≡ true
-        → decision_in done.answer ≡ Refuse (Token InvalidGrant)
+        → decision_in done.answer ≡ Err (Token InvalidGrant)
     -- a fit store stays fit, whatever is answered
     pub stays_fit : is_fit_for registry store ≡ true → is_fit_for registry done.store ≡ true
     -- what is answered is within the output, which keeps its length and every byte beyond what is answered

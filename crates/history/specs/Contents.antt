@@ -2,7 +2,7 @@
 --
 -- These definitions are the claim's own: they take the texts of a query, a header, a body and an answer, and share with the
 -- server only how a form, a scope value, base64 and a registry are read, and which forms and clients are refused.
-use Rattle.std.specs.Prelude.{ℕ, ◌+◌, ◌≤◌, max, Bool, true, false, cond, not, ◌&&◌, ◌||◌, List, [], ◌∷◌, ◌++◌, map, eqb, ltb, length, take, drop, replicate}
+use Rattle.std.specs.Prelude.{ℕ, ◌+◌, ◌≤◌, max, Bool, true, false, cond, not, ◌&&◌, ◌||◌, List, [], ◌∷◌, ◌++◌, map, eqb, ltb, length, take, drop, replicate, Option, Some, None}
 use Rattle.octets.specs.Text.{bytes}
 use Rattle.octets.specs.Lists.{part, every, same, index_of}
 use Rattle.octets.specs.Search.{count, any, first_or, keep}
@@ -12,8 +12,7 @@ use Rattle.form_coding.specs.Coding.{decode}
 use Rattle.form.specs.Content.{Value, missing, once, repeated, form_value, only_value, is_once}
 use Rattle.scope.specs.Set.{has}
 use Rattle.scope.specs.Value.{read_scope}
-use Rattle.scope.specs.declared.ScopeValue.{ScopeValue}
-use Rattle.scope.specs.declared.ScopeValue.TheVariants.{Names, Invalid}
+use Rattle.scope.specs.declared.Scope.{Scope}
 use Rattle.client_registry.specs.Registry.{Client}
 use Rattle.client_registry.specs.Lookup.{number_of, client_at}
 use Rattle.protocol.specs.ClientForms.{is_invalid_form, is_invalid_client}
@@ -103,9 +102,9 @@ is_refresh body = is_once (bytes "refresh_token") (form_value body (bytes "grant
 abbrev pub is_credentials : List ℕ → Bool
 is_credentials body = is_once (bytes "client_credentials") (form_value body (bytes "grant_type"))
 
-unfoldable pub none_beyond : ScopeValue → ℕ → Bool
-none_beyond (Names asked) granted = every (λ k. not (has asked.bits k) || has granted k) (0 ∷ 1 ∷ 2 ∷ 3 ∷ 4 ∷ 5 ∷ 6 ∷ 7 ∷ [])
-none_beyond Invalid granted = false
+unfoldable pub none_beyond : Option Scope → ℕ → Bool
+none_beyond (Some asked) granted = every (λ k. not (has asked.bits k) || has granted k) (0 ∷ 1 ∷ 2 ∷ 3 ∷ 4 ∷ 5 ∷ 6 ∷ 7 ∷ [])
+none_beyond None granted = false
 
 -- "Scope is within the granted one when none is asked, or a scope value with no name beyond it."
 unfoldable pub is_within_granted : Value → ℕ → Bool
@@ -113,9 +112,9 @@ is_within_granted missing granted = true
 is_within_granted (once v) granted = none_beyond (read_scope v) granted
 is_within_granted repeated granted = false
 
-unfoldable pub names_or : ScopeValue → ℕ → ℕ
-names_or (Names asked) granted = asked.bits
-names_or Invalid granted = granted
+unfoldable pub names_or : Option Scope → ℕ → ℕ
+names_or (Some asked) granted = asked.bits
+names_or None granted = granted
 
 -- "with the asked scope, or the granted one"
 unfoldable pub asked_or : Value → ℕ → ℕ

@@ -1,15 +1,13 @@
 -- Our server, by the definitions that the endpoints are proved against: the outcome of any call, and what demand 3 sees of it.
-use Rattle.std.specs.Prelude.{ℕ, Bool, true, false, List, eqb}
+use Rattle.std.specs.Prelude.{ℕ, Bool, true, false, List, eqb, Ok, Err}
 use Rattle.protocol.specs.declared.Refusal.{Refusal}
 use Rattle.protocol.specs.declared.Refusal.TheVariants.{Unfit, ErrorPage, Redirect, Token, Failed}
-use Rattle.protocol.specs.declared.Decision.{Decision}
-use Rattle.protocol.specs.declared.Decision.TheVariants.{Grant, Refuse}
 use Rattle.protocol.specs.declared.AuthorizationAnswer.{AuthorizationAnswer}
 use Rattle.protocol.specs.declared.TokenAnswer.{TokenAnswer}
 use Rattle.protocol.specs.declared.LiveToken.{LiveToken}
 use Rattle.protocol.specs.declared.CheckAnswer.{CheckAnswer}
 use Rattle.protocol.specs.declared.CheckAnswer.TheVariants.{Refused, NotLive, Live}
-use Rattle.protocol.specs.Answers.{is_grant, status_of}
+use Rattle.protocol.specs.Answers.{is_grant, status_of, Decision}
 use Rattle.protocol.specs.Outcomes.{Outcome, authorization_outcome, token_outcome, revocation_outcome, check_outcome}
 use Rattle.history.specs.Calls.{Call, authorization, token, revocation, check, Result, Server}
 
@@ -42,8 +40,8 @@ is_unfit_refusal (Token w) = false
 is_unfit_refusal (Failed f) = false
 
 unfoldable pub is_unfit_decision : Decision → Bool
-is_unfit_decision Grant = false
-is_unfit_decision (Refuse r) = is_unfit_refusal r
+is_unfit_decision (Ok tt) = false
+is_unfit_decision (Err r) = is_unfit_refusal r
 
 unfoldable pub is_unfit_check : CheckAnswer → Bool
 is_unfit_check (Refused r) = is_unfit_refusal r

@@ -1,7 +1,6 @@
 -- What the claims know of a store: how many slots it has, and by a slot's bytes whether it holds a token, which one, and from which code.
 use Rattle.std.specs.Prelude.{ℕ, Bool, ◌&&◌, ◌||◌, List, eqb, take}
-use Rattle.octets.specs.Lists.{same}
-use Rattle.encoding.specs.Hex.{read_handle}
+use Rattle.encoding.specs.Hex.{read_handle, presents}
 use Rattle.token_store.specs.Store.{decode_slot}
 
 -- "In August 512 slots ran out and apps got 503. Raise it to 900": the claims' own number
@@ -10,7 +9,7 @@ slots_in_all = 900
 
 -- "A presented handle is 40 lower-case hex digits; any other text matches no slot."
 abbrev pub is_text_of : List ℕ → List ℕ → Bool
-is_text_of text handle = let shown = read_handle text in shown.valid && same shown.bytes handle
+is_text_of text handle = presents (read_handle text) handle
 
 -- by a slot's bytes: "3 access; 4 refresh"
 abbrev pub holds_access : List ℕ → Bool

@@ -9,12 +9,11 @@ use mathlib.Core.Path.{◌≡◌, refl}
 use mathlib.Core.Bool.{Bool, true, false, cond, not}
 use mathlib.Core.List.{List, [], ◌∷◌, ◌++◌}
 use Prim.Native.Nat.{ℕ}
+use Rattle.std.specs.Prelude.{Option, None}
 use lib.Dec.{ltb}
 use lib.ListN.{length}
 use Rattle.octets.specs.Text.{bytes}
 use Rattle.form.specs.Content.{form_value, is_missing, only_value, is_once}
-use Rattle.encoding.specs.declared.DigestText.{DigestText}
-use Rattle.encoding.specs.declared.HandleText.{HandleText}
 use Rattle.client_registry.specs.Registry.{Client, fit_registry, clients_of}
 use Rattle.client_registry.specs.Lookup.{client_at}
 use Rattle.token_store.specs.declared.Slot.{Slot}
@@ -26,7 +25,7 @@ use Rattle.encoding.specs.Hex.{read_handle}
 use Rattle.protocol.specs.declared.Input.{Input}
 use Rattle.protocol.specs.declared.Input.TheVariants.{Buffers, Registry, Store, Clock}
 use Rattle.protocol.specs.declared.Refusal.TheVariants.{Unfit, Token}
-use Rattle.protocol.specs.declared.Decision.{Decision}
+use Rattle.protocol.specs.Answers.{Decision}
 use Rattle.protocol.specs.declared.CheckAnswer.TheVariants.{NotLive, Live}
 use Rattle.protocol.specs.declared.ErrorWord.TheVariants.{InvalidRequest}
 use Rattle.protocol.specs.declared.ExchangeRequest.{ExchangeRequest}
@@ -34,7 +33,7 @@ use Rattle.protocol.specs.declared.RefreshRequest.{RefreshRequest}
 use Rattle.protocol.specs.declared.CredentialsRequest.{CredentialsRequest}
 use Rattle.protocol.specs.declared.Reading.{Reading}
 use Rattle.protocol.specs.declared.Request.TheVariants.{Exchange, Refresh, Credentials, Revocation}
-use Rattle.protocol.specs.Requests.{unless_refused, no_challenge, presenting_none}
+use Rattle.protocol.specs.Requests.{unless_refused, presenting_none}
 use Rattle.protocol.specs.Authorization.{query_client, page_reasons, redirect_reasons, code_reading, read_authorization}
 use Rattle.protocol.specs.ClientForms.{call_client, form_reasons}
 use Rattle.protocol.specs.Token.{read_exchange, read_refresh, credentials_reasons, read_credentials, read_grant, token_names, read_token}
@@ -85,15 +84,15 @@ module _ (t : ℕ) (slots : List Slot) (random : List ℕ) where
   either true x y p q = p
   either false x y p q = q
 
-  exchange-decides : (presented : HandleText) (answered : DigestText) (r : ExchangeRequest)
+  exchange-decides : (presented answered : Option (List ℕ)) (r : ExchangeRequest)
       → Decides (record { request = Exchange r; presented = presented; challenge = answered })
   unfolding plan_for exchange_plan of_token
   exchange-decides presented answered r =
       decided (λ d. of_token d ≡ true) (exchange_plan t slots random presented answered r).reasons
       (refl, (refl, (refl, (refl, (refl, tt))))) (λ _. refl)
 
-  refresh-decides : (presented : HandleText) (r : RefreshRequest)
-      → Decides (record { request = Refresh r; presented = presented; challenge = no_challenge })
+  refresh-decides : (presented : Option (List ℕ)) (r : RefreshRequest)
+      → Decides (record { request = Refresh r; presented = presented; challenge = None })
   unfolding plan_for refresh_plan of_token
   refresh-decides presented r =
       decided (λ d. of_token d ≡ true) (refresh_plan t slots random presented r).reasons (refl, (refl, (refl, (refl, tt)))) (λ _. refl)
@@ -135,7 +134,7 @@ revocation-decides header body registry store clock output =
     let reading : Reading = record {
       request = Revocation (record { client = call_client clients header body });
       presented = read_handle (only_value (form_value body (bytes "token")));
-      challenge = no_challenge;
+      challenge = None;
     }
     in
     answered (revocation_endpoint header body) registry store (without_random clock output) (λ a. of_revocation a.decision ≡ true) (λ i. refl)
@@ -146,7 +145,7 @@ revocation-decides header body registry store clock output =
 
 -- ---- the check
 
-slots-decide : (t : ℕ) (slots : List Slot) (presented : HandleText) → of_check (check_slots t slots presented) ≡ true
+slots-decide : (t : ℕ) (slots : List Slot) (presented : Option (List ℕ)) → of_check (check_slots t slots presented) ≡ true
 unfolding check_slots of_check
 slots-decide t slots presented =
     let s = shown_slot sought_access presented slots in by s (is_live t s)

@@ -4,12 +4,14 @@
 -- Case by case. One case would have the numbers of another, an answer `Failed` of the authorization endpoint: it would have refusal 0
 -- and error 0, and cannot come (Endpoints).
 --
--- In order: each input, page and word; refusals 1 to 4; a code, tokens, a token that passes; for every input (`nothing-else`).
+-- In order: each input, page and word; refusals 1 to 4; a code, a token that passes; for every input (`nothing-else`).
+-- Of tokens and a revocation, status 200, `status-grant` of history says it.
 -- Assumes nothing.
 use mathlib.Core.Path.{◌≡◌, refl}
 use mathlib.Core.Bool.{true, false, ◌&&◌, false≢true}
 use mathlib.Core.List.{List}
 use Prim.Native.Nat.{ℕ}
+use Rattle.std.specs.Prelude.{Ok, Err}
 use lib.Dec.{eqb}
 use Rattle.protocol.specs.declared.ErrorWord.{ErrorWord}
 use Rattle.protocol.specs.declared.ErrorWord.TheVariants.{InvalidRequest, InvalidClient, InvalidGrant, InvalidScope, UnsupportedGrantType, UnsupportedResponseType, AccessDenied, TemporarilyUnavailable, ServerError, UnauthorizedClient}
@@ -17,17 +19,15 @@ use Rattle.protocol.specs.declared.Input.{Input}
 use Rattle.protocol.specs.declared.Input.TheVariants.{Buffers, Registry, Store, Clock}
 use Rattle.protocol.specs.declared.PageCause.{PageCause}
 use Rattle.protocol.specs.declared.PageCause.TheVariants.{Query, Client, RedirectUri}
-use Rattle.protocol.specs.declared.Failure.TheVariants.{NoRoom, Clash}
 use Rattle.protocol.specs.declared.Refusal.{Refusal}
 use Rattle.protocol.specs.declared.Refusal.TheVariants.{Unfit, ErrorPage, Redirect, Token, Failed}
-use Rattle.protocol.specs.declared.Decision.{Decision}
-use Rattle.protocol.specs.declared.Decision.TheVariants.{Grant, Refuse}
 use Rattle.protocol.specs.declared.CheckAnswer.{CheckAnswer}
 use Rattle.protocol.specs.declared.CheckAnswer.TheVariants.{Refused, NotLive, Live}
-use Rattle.protocol.specs.Answers.{word_number, word_status, input_number, page_number, refusal_number, status_of, is_grant}
+use Rattle.protocol.specs.Answers.{word_number, input_number, page_number, refusal_number, is_grant, Decision}
 use Rattle.protocol.specs.Outcomes.{authorization_outcome, token_outcome, revocation_outcome, check_outcome}
 use Rattle.authorization_server.specs.Numbers.{decision_number, decision_error, check_reply}
 use Rattle.history.specs.Server.{is_unfit_refusal, is_unfit_decision, is_unfit_check, is_live_check}
+use Rattle.history.proofs.AnyCall.{status-grant}
 use Rattle.host_history.specs.Exports.{is_one_to_four}
 use Rattle.host_history.specs.Cases.{of_authorization, NothingElse}
 use Rattle.host_history.proofs.Endpoints.{authorization-decides, token-decides, revocation-decides, check-decides}
@@ -45,17 +45,17 @@ page-numbers Query = (refl, refl)
 page-numbers Client = (refl, refl)
 page-numbers RedirectUri = (refl, refl)
 
-word-numbers : (w : ErrorWord) → (eqb (word_number w) 0 ≡ false) × (eqb (word_status w) 200 ≡ false)
-word-numbers InvalidRequest = (refl, refl)
-word-numbers InvalidClient = (refl, refl)
-word-numbers InvalidGrant = (refl, refl)
-word-numbers InvalidScope = (refl, refl)
-word-numbers UnsupportedGrantType = (refl, refl)
-word-numbers UnsupportedResponseType = (refl, refl)
-word-numbers AccessDenied = (refl, refl)
-word-numbers TemporarilyUnavailable = (refl, refl)
-word-numbers ServerError = (refl, refl)
-word-numbers UnauthorizedClient = (refl, refl)
+word-number : (w : ErrorWord) → eqb (word_number w) 0 ≡ false
+word-number InvalidRequest = refl
+word-number InvalidClient = refl
+word-number InvalidGrant = refl
+word-number InvalidScope = refl
+word-number UnsupportedGrantType = refl
+word-number UnsupportedResponseType = refl
+word-number AccessDenied = refl
+word-number TemporarilyUnavailable = refl
+word-number ServerError = refl
+word-number UnauthorizedClient = refl
 
 -- ---- refusals 1 to 4
 
@@ -69,8 +69,8 @@ refusal-unfit (Failed f) = refl
 
 decision-unfit : (d : Decision) → is_one_to_four (decision_number d) ≡ is_unfit_decision d
 unfolding is_unfit_decision
-decision-unfit Grant = refl
-decision-unfit (Refuse r) = refusal-unfit r
+decision-unfit (Ok tt) = refl
+decision-unfit (Err r) = refusal-unfit r
 
 check-unfit : (a : CheckAnswer) → is_one_to_four (check_reply a).refusal ≡ is_unfit_check a
 unfolding is_unfit_check
@@ -82,24 +82,12 @@ check-unfit (Live l) = refl
 
 authorization-granted : (d : Decision) → of_authorization d ≡ true → (eqb (decision_number d) 0 && eqb (decision_error d) 0) ≡ is_grant d
 unfolding of_authorization is_grant
-authorization-granted Grant e = refl
-authorization-granted (Refuse (Unfit i)) e = (input-numbers i).1
-authorization-granted (Refuse (ErrorPage p)) e = (page-numbers p).1
-authorization-granted (Refuse (Redirect w)) e = (word-numbers w).0
-authorization-granted (Refuse (Token w)) e = absurd (false≢true e)
-authorization-granted (Refuse (Failed f)) e = absurd (false≢true e)
-
--- ---- tokens, or a revocation that was done: status 200
-
-token-granted : (d : Decision) → eqb (status_of d) 200 ≡ is_grant d
-unfolding is_grant
-token-granted Grant = refl
-token-granted (Refuse (Unfit i)) = refl
-token-granted (Refuse (ErrorPage p)) = refl
-token-granted (Refuse (Redirect w)) = refl
-token-granted (Refuse (Token w)) = (word-numbers w).1
-token-granted (Refuse (Failed NoRoom)) = refl
-token-granted (Refuse (Failed Clash)) = refl
+authorization-granted (Ok tt) e = refl
+authorization-granted (Err (Unfit i)) e = (input-numbers i).1
+authorization-granted (Err (ErrorPage p)) e = (page-numbers p).1
+authorization-granted (Err (Redirect w)) e = word-number w
+authorization-granted (Err (Token w)) e = absurd (false≢true e)
+authorization-granted (Err (Failed f)) e = absurd (false≢true e)
 
 -- ---- a token that passes: live 1
 
@@ -120,8 +108,8 @@ nothing-else registry store = record {
   granted = λ query decision farm handed.
       authorization-granted (authorization_outcome query decision farm registry store handed).answer.decision
       (authorization-decides query decision farm registry store handed);
-  yielded = λ header body handed. token-granted (token_outcome header body registry store handed).answer.decision;
-  revoked = λ header body clock output. token-granted (revocation_outcome header body registry store clock output).answer.decision;
+  yielded = λ header body handed. status-grant (token_outcome header body registry store handed).answer.decision;
+  revoked = λ header body clock output. status-grant (revocation_outcome header body registry store clock output).answer.decision;
   live = λ presented clock. check-live (check_outcome presented registry store clock).answer;
   unfit = decision-unfit;
   unfit_check = check-unfit;

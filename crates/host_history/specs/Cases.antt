@@ -2,13 +2,11 @@
 -- else than a grant has the numbers of a grant, and nothing else than refusals 1 to 4 has theirs.
 --
 -- The claim over the exports speaks of numbers alone and can be read without this. Proved in proofs/ (`nothing-else`).
-use Rattle.std.specs.Prelude.{ℕ, ◌≡◌, Bool, true, false, not, ◌&&◌, List, eqb}
+use Rattle.std.specs.Prelude.{ℕ, ◌≡◌, Bool, true, false, not, ◌&&◌, List, eqb, Ok, Err}
 use Rattle.protocol.specs.declared.Refusal.TheVariants.{Unfit, ErrorPage, Redirect, Token, Failed}
-use Rattle.protocol.specs.declared.Decision.{Decision}
-use Rattle.protocol.specs.declared.Decision.TheVariants.{Grant, Refuse}
 use Rattle.protocol.specs.declared.CheckAnswer.{CheckAnswer}
 use Rattle.protocol.specs.declared.CheckAnswer.TheVariants.{Refused, NotLive, Live}
-use Rattle.protocol.specs.Answers.{refusal_number, is_grant}
+use Rattle.protocol.specs.Answers.{refusal_number, is_grant, Decision}
 use Rattle.protocol.specs.Outcomes.{Handed, authorization_outcome, token_outcome, revocation_outcome, check_outcome}
 use Rattle.authorization_server.specs.Numbers.{decision_number, authorization_reply, token_reply, check_reply}
 use Rattle.history.specs.Server.{is_unfit_refusal, is_unfit_decision, is_unfit_check, is_live_check}
@@ -16,30 +14,30 @@ use Rattle.host_history.specs.Exports.{is_one_to_four}
 
 -- "page", and "Authorization then redirects with an error word"
 unfoldable pub of_authorization : Decision → Bool
-of_authorization Grant = true
-of_authorization (Refuse (Unfit i)) = true
-of_authorization (Refuse (ErrorPage p)) = true
-of_authorization (Refuse (Redirect w)) = true
-of_authorization (Refuse (Token w)) = false
-of_authorization (Refuse (Failed f)) = false
+of_authorization (Ok tt) = true
+of_authorization (Err (Unfit i)) = true
+of_authorization (Err (ErrorPage p)) = true
+of_authorization (Err (Redirect w)) = true
+of_authorization (Err (Token w)) = false
+of_authorization (Err (Failed f)) = false
 
 -- an error word with its status, and "Status 503, empty", "Status 500, empty"
 unfoldable pub of_token : Decision → Bool
-of_token Grant = true
-of_token (Refuse (Unfit i)) = true
-of_token (Refuse (ErrorPage p)) = false
-of_token (Refuse (Redirect w)) = false
-of_token (Refuse (Token w)) = true
-of_token (Refuse (Failed f)) = true
+of_token (Ok tt) = true
+of_token (Err (Unfit i)) = true
+of_token (Err (ErrorPage p)) = false
+of_token (Err (Redirect w)) = false
+of_token (Err (Token w)) = true
+of_token (Err (Failed f)) = true
 
 -- an error word with its status
 unfoldable pub of_revocation : Decision → Bool
-of_revocation Grant = true
-of_revocation (Refuse (Unfit i)) = true
-of_revocation (Refuse (ErrorPage p)) = false
-of_revocation (Refuse (Redirect w)) = false
-of_revocation (Refuse (Token w)) = true
-of_revocation (Refuse (Failed f)) = false
+of_revocation (Ok tt) = true
+of_revocation (Err (Unfit i)) = true
+of_revocation (Err (ErrorPage p)) = false
+of_revocation (Err (Redirect w)) = false
+of_revocation (Err (Token w)) = true
+of_revocation (Err (Failed f)) = false
 
 -- "1 to 4 .. (the gate has no 1)"; "Not live is an answer, not an error."
 unfoldable pub of_check : CheckAnswer → Bool

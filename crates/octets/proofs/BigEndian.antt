@@ -1,17 +1,19 @@
 -- Laws of big-endian numbers, each once over the width: the functions at 4 and at 8 bytes cite them.
 --
--- In order: one byte more, two numbers behind each other, four bytes, the bound; the length of what is written; reading what was
--- written and writing what was read; a field of one byte; a number stored from its last byte.
+-- In order: one byte more, two numbers behind each other, four bytes and eight as std reads them, the bound; the length of what is
+-- written, four bytes and eight as std writes them; reading what was written and writing what was read; a field of one byte; a
+-- number stored from its last byte.
 -- Assumes nothing.
 use mathlib.Core.Path.{◌≡◌, refl, sym, ap, ◌∙◌}
 use mathlib.Core.List.{List, [], ◌∷◌, ◌++◌}
 use Prim.Native.Nat.{ℕ, zero, suc, ◌+◌, ◌*◌, ◌/◌, ◌%◌, ◌^◌, ◌-◌, ◌≤◌, ◌<◌}
-use native.Mathlib.Nat.{mod-eq_of_lt, add-zero, mul-one, mul-le-mul_right, pow-suc, pow-zero, not-suc-le-zero, div-lt_iff_lt-mul, suc-ne-zero}
+use native.Mathlib.Nat.{mod-eq_of_lt, add-zero, mul-one, mul-le-mul_right, pow-suc, pow-zero, not-suc-le-zero, div-lt_iff_lt-mul, div-div-eq-div-mul, suc-ne-zero}
 use native.Mathlib.Numerals.{add-one}
 use native.Mathlib.Omega.{arith}
 use lib.Dec.{lit<}
 use lib.ListN.{length, take, drop, get_or, set, length-append, length-drop}
 use lib.Seq.{sets, take-suc, take_all, get_or-drop, length-take-le}
+use Rattle.std.specs.Int.{w32, w64, from_be_bytes, to_be_bytes}
 use Rattle.octets.specs.Lists.{part, Bytes}
 use Rattle.octets.specs.BigEndian.{big_endian, big_endian_from, big_endian_bytes}
 use Rattle.octets.proofs.Lists.{take-bytes, tail-bytes, part-add, length_part}
@@ -63,11 +65,22 @@ be-split l at m n h =
     ap big_endian (part-add l at m n) ∙ be-append (part l at m) (part l (at + m) n) ∙ rw e
 
 -- four bytes, written out
-pub be-four : (l : List ℕ) (at : ℕ) → at + 4 ≤ length l
+four-at : (l : List ℕ) (at : ℕ) → at + 4 ≤ length l
     → big_endian (part l at 4) ≡ get_or l at 0 * 16777216 + get_or l (at + 1) 0 * 65536 + get_or l (at + 2) 0 * 256 + get_or l (at + 3) 0
-be-four l at h =
+four-at l at h =
     let z : get_or l (at + 0) 0 ≡ get_or l at 0 = ap (λ (k : ℕ). get_or l k 0) (add-zero at) in
     omega (arith, z, be-nil, be-more l at 0 (omega arith), be-more l at 1 (omega arith), be-more l at 2 (omega arith), be-more l at 3 (omega arith))
+
+-- std's numbers of four bytes and of eight
+pub be-four : (l : List ℕ) → length l ≡ 4 → from_be_bytes w32 l ≡ big_endian l
+be-four l e =
+    let all : big_endian (part l 0 4) ≡ big_endian l = ap big_endian (take_all 4 l (omega arith)) in
+    omega (arith, all, four-at l 0 (omega arith))
+
+pub be-eight : (l : List ℕ) → length l ≡ 8 → from_be_bytes w64 l ≡ big_endian l
+be-eight l e =
+    let all : big_endian (part l 0 8) ≡ big_endian l = ap big_endian (take_all 8 l (omega arith)) in
+    omega (arith, all, be-split l 0 4 4 (omega arith), four-at l 0 (omega arith), four-at l 4 (omega arith))
 
 pub be-bound : (l : List ℕ) → Bytes l → big_endian l < 256 ^ length l
 unfolding big_endian_from
@@ -84,6 +97,28 @@ pub length-be-bytes : (n x : ℕ) → length (big_endian_bytes n x) ≡ n
 unfolding big_endian_bytes
 length-be-bytes zero x = refl
 length-be-bytes (suc n) x = simp (length-append, length-be-bytes n) (omega arith)
+
+-- four bytes and eight bytes, as std writes them
+pub be-to-four : (x : ℕ) → to_be_bytes w32 x ≡ big_endian_bytes 4 x
+unfolding big_endian_bytes
+be-to-four x = simp div-div-eq-div-mul
+
+pub be-to-eight : (x : ℕ) → to_be_bytes w64 x ≡ big_endian_bytes 8 x
+unfolding big_endian_bytes
+be-to-eight x = simp div-div-eq-div-mul
+
+-- of a number that eight bytes do not hold, the last 64 bits are written
+pub be-low-eight : (x : ℕ) → to_be_bytes w64 (x % 2 ^ 64) ≡ big_endian_bytes 8 x
+be-low-eight x =
+    let b0 : x % 2 ^ 64 / 72057594037927936 % 256 ≡ x / 72057594037927936 % 256 = omega arith in
+    let b1 : x % 2 ^ 64 / 281474976710656 % 256 ≡ x / 281474976710656 % 256 = omega arith in
+    let b2 : x % 2 ^ 64 / 1099511627776 % 256 ≡ x / 1099511627776 % 256 = omega arith in
+    let b3 : x % 2 ^ 64 / 4294967296 % 256 ≡ x / 4294967296 % 256 = omega arith in
+    let b4 : x % 2 ^ 64 / 16777216 % 256 ≡ x / 16777216 % 256 = omega arith in
+    let b5 : x % 2 ^ 64 / 65536 % 256 ≡ x / 65536 % 256 = omega arith in
+    let b6 : x % 2 ^ 64 / 256 % 256 ≡ x / 256 % 256 = omega arith in
+    let b7 : x % 2 ^ 64 % 256 ≡ x % 256 = omega arith in
+    rw (b0, b1, b2, b3, b4, b5, b6, b7) (be-to-eight x)
 
 -- reading what was written
 pub be-bytes : (n x : ℕ) → x < 256 ^ n → big_endian (big_endian_bytes n x) ≡ x

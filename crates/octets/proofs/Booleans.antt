@@ -88,12 +88,9 @@ of-T-equal true false t = absurd t
 of-T-equal false true t = absurd t
 of-T-equal false false t = refl
 
--- ---- a number between two bounds
+-- ---- a number and its upper bound
 
 module _ (low high c : ℕ) where
-  pub within_low : (leb low c && leb c high) ≡ true → low ≤ c
-  within_low e = leb-true low c (and_left (leb low c) (leb c high) e)
-
   pub within-high : (leb low c && leb c high) ≡ true → c ≤ high
   within-high e = leb-true c high (and_right (leb low c) (leb c high) e)
 

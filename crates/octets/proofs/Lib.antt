@@ -5,6 +5,7 @@ pub mod Lists
 pub mod Stores
 pub mod BigEndian
 pub mod Pieces
+pub mod Splits
 pub mod Writing
 pub mod Searches
 pub mod Counting

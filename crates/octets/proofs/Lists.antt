@@ -1,7 +1,7 @@
 -- Laws of the definitions of specs/Lists.antt that a scan asks for, and of parts.
 --
--- In order: `every`, one element more at the back; `same`, as an equation and as a scan; lists of bytes; a text in a
--- table; parts: their length, parts of parts, of a longer list, a part that reaches the end, and parts by their end.
+-- In order: `every`, one element more at the back; `same`, as an equation; lists of bytes; parts: their
+-- length, parts of parts, of a longer list, a part that reaches the end, and parts by their end.
 --
 -- Not here: a run of stores (`Stores`), `index_of` and `split_on` (`Pieces`), `take`, `drop` and `get_or` alone (`lib.Seq`).
 -- Assumes nothing.
@@ -14,10 +14,9 @@ use native.Mathlib.Numerals.{add-one}
 use native.Mathlib.Omega.{arith}
 use borrow.Author.Tests.{eq-eqb, eqb-true}
 use lib.Dec.{eqb, lit<}
-use lib.ListN.{length, take, drop, get_or, replicate, length-append, length-drop}
-use lib.Seq.{take-nil, take-suc, drop-cons, take_all, get_or-drop, drop-drop, take-take, length-take-le, take-add, take-append_seam, take-append-le, drop-append-le}
+use lib.ListN.{length, take, drop, get_or, replicate, length-drop}
+use lib.Seq.{take-nil, take-suc, drop-cons, take_all, get_or-drop, drop-drop, take-take, length-take-le, take-add, take-append-le, drop-append-le}
 use Rattle.octets.proofs.Booleans.{by-test, and_left, and_right}
-use Rattle.octets.specs.Text.{padded}
 use Rattle.octets.specs.Lists.{part, Bytes, every, is_zero, same}
 
 -- ---- every element passes
@@ -91,24 +90,11 @@ same-iff x y u v f g = by (same x y) refl (same u v) refl
 pub same_length : (xs ys : List ℕ) → (length xs ≡ length ys → ⊥) → same xs ys ≡ false
 same_length xs ys n = by-test (same xs ys) (λ e. absurd (n (ap length (same-eq xs ys e)))) (λ e. e)
 
-pub same_none : (xs ys : List ℕ) → same (take 0 xs) (take 0 ys) ≡ true
+pub same_empty : (xs ys : List ℕ) → length xs ≡ 0 → length ys ≡ 0 → same xs ys ≡ true
 unfolding same
-same_none xs ys = refl
-
-same-append : (xs ys : List ℕ) (x y : ℕ) → length xs ≡ length ys → same (xs ++ (x ∷ [])) (ys ++ (y ∷ [])) ≡ (same xs ys && eqb x y)
-unfolding same
-same-append [] [] x y e = and-true (eqb x y)
-same-append [] (b ∷ ys) x y e = absurd (omega arith)
-same-append (a ∷ xs) [] x y e = absurd (omega arith)
-same-append (a ∷ xs) (b ∷ ys) x y e =
-    ap (λ (q : Bool). eqb a b && q) (same-append xs ys x y (omega arith)) ∙ sym (and_assoc (eqb a b) (same xs ys) (eqb x y))
-
--- one element more of both
-pub same_more : (xs ys : List ℕ) (i : ℕ) → i < length xs → i < length ys
-    → same (take (i + 1) xs) (take (i + 1) ys) ≡ (same (take i xs) (take i ys) && eqb (get_or xs i 0) (get_or ys i 0))
-same_more xs ys i hx hy =
-    let e : length (take i xs) ≡ length (take i ys) = omega (arith, length-take-le i xs (omega arith), length-take-le i ys (omega arith)) in
-    rw (add-one, take-suc xs i 0 hx, take-suc ys i 0 hy) (same-append (take i xs) (take i ys) (get_or xs i 0) (get_or ys i 0) e)
+same_empty [] [] e f = refl
+same_empty [] (y ∷ ys) e f = absurd (omega arith)
+same_empty (x ∷ xs) ys e f = absurd (omega arith)
 
 -- ---- lists of bytes
 
@@ -143,15 +129,6 @@ each-replicate P a (suc n) (suc k) p = each-replicate P a n k p
 pub zero-bytes : (n : ℕ) → Bytes (replicate n 0)
 zero-bytes n k = each-replicate (λ (b : ℕ). b < 256) 0 n k (lit< tt)
 
--- ---- a text in a table, with spaces behind it
-
-module _ (n : ℕ) (t : List ℕ) where
-  pub padded-room : length t ≤ length (padded n t)
-  padded-room = simp length-append (omega arith)
-
-  pub padded-text : take (length t) (padded n t) ≡ t
-  padded-text = take-append_seam t (replicate (n - length t) 32)
-
 -- ---- parts
 
 module _ (l : List ℕ) (at n : ℕ) (fits : at + n ≤ length l) where
@@ -179,6 +156,10 @@ part-append l m at n h = rw (drop-append-le at l m (omega arith)) (take-append-l
 -- a part that reaches the end
 pub part-rest : (s : List ℕ) (at : ℕ) → part s at (length s - at) ≡ drop at s
 part-rest s at = take_all (length s - at) (drop at s) (simp length-drop (omega arith))
+
+-- the first n elements of what stands from an index on
+pub part-first : (s : List ℕ) (at n : ℕ) → take n (take (length s - at) (drop at s)) ≡ part s at n
+part-first s at n = ap (take n) (part-rest s at)
 
 -- a part from a start to an end
 pub part-to : (l : List ℕ) (from to n : ℕ) → to ≡ from + n → part l from (to - from) ≡ part l from n

@@ -1,6 +1,6 @@
 -- Laws of `index_of` and `split_on`: how a reader goes from one piece of a text to the next.
 --
--- In order: `index_of` at an index of the list, and its bound; `remaining`, the pieces from a position on, one piece
+-- In order: the bound of `index_of`, and std's search for the same place; `remaining`, the pieces from a position on, one piece
 -- after the other.
 -- Assumes nothing.
 use Prim.Native.Nat.{ℕ, suc, ◌+◌, ◌-◌, ◌<◌, ◌≤◌}
@@ -8,36 +8,37 @@ use mathlib.Core.Path.{◌≡◌, refl, ◌∙◌, ap}
 use mathlib.Core.List.{List, [], ◌∷◌}
 use mathlib.Core.Bool.{cond}
 use native.Mathlib.Nat.{add_assoc, suc-add}
-use native.Mathlib.Numerals.{add-one}
 use native.Mathlib.Omega.{arith}
-use borrow.Author.Tests.{eq-eqb, ne_eqb, le-leb, lt-leb, leb-true, leb-false}
+use borrow.Author.Tests.{le-leb, lt-leb, leb-true, leb-false, ltb-false}
 use lib.Dec.{leb, ltb, eqb, leb-suc-suc}
-use lib.ListN.{get_or, length, take, drop, length-drop, drop_of_length-le}
-use lib.Seq.{drop-cons, drop-drop}
+use lib.ListN.{length, take, drop, length-drop}
+use lib.Seq.{drop-drop}
 use Rattle.octets.proofs.Booleans.{by-test, cond_of}
 use Rattle.octets.specs.Lists.{index_of, grow, split_on}
+use Rattle.std.specs.List.{position, position_or_len}
+use Rattle.std.specs.Option.{unwrap_or}
+use Rattle.std.specs.Prelude.{Option}
 use Rattle.octets.specs.Search.{any, index_where}
 use Rattle.octets.proofs.Searches.{any-index as any_where}
 
--- ---- the first x of a list, seen from an index
-
-module _ (v : List ℕ) (x i : ℕ) where
-  pub index-here : i < length v → get_or v i 0 ≡ x → index_of x (drop i v) ≡ 0
-  unfolding index_of
-  index-here h e = rw (drop-cons v i 0 h, eq-eqb (get_or v i 0) x e)
-
-  pub index-past : i < length v → (get_or v i 0 ≡ x → ⊥) → index_of x (drop i v) ≡ suc (index_of x (drop (i + 1) v))
-  unfolding index_of
-  index-past h e = rw (add-one, drop-cons v i 0 h, ne_eqb (get_or v i 0) x e)
-
-  pub index-end : length v ≤ i → index_of x (drop i v) ≡ 0
-  unfolding index_of
-  index-end h = rw (drop_of_length-le v h)
+-- ---- the first x of a list
 
 pub index-le : (x : ℕ) (l : List ℕ) → index_of x l ≤ length l
 unfolding index_of
 index-le x [] = omega arith
 index-le x (c ∷ t) = let h = index-le x t in cond_of (λ k. k ≤ suc (length t)) (eqb c x) 0 (suc (index_of x t)) (λ e. omega arith) (λ e. omega arith)
+
+-- the place that `position` finds, or the length where it finds none
+pub index-position : (x : ℕ) (l : List ℕ) → index_of x l ≡ position_or_len (λ c. eqb c x) l
+unfolding index_of
+index-position x [] = refl
+index-position x (c ∷ t) = by-test (eqb c x) (λ e. rw e refl) (λ e. rw (e, index-position x t) (omega arith))
+
+pub unwrap-position : (x : ℕ) (l : List ℕ) (r : Option ℕ) → r ≡ position (λ c. eqb c x) l → unwrap_or r (length l) ≡ index_of x l
+unwrap-position x l r e =
+    let at = index-position x l in
+    let h = index-le x l in
+    rw (e, ← at) (by-test (ltb (index_of x l) (length l)) (λ t. rw t refl) (λ f. rw f (omega (arith, ltb-false))))
 
 -- a byte is in a list exactly where its first place is
 pub any-index : (x : ℕ) (l : List ℕ) → any (λ b. eqb b x) l ≡ ltb (index_of x l) (length l)

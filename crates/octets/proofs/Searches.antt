@@ -2,15 +2,13 @@
 --
 -- In order: the place of the first that passes: its bound, what stands at it and before it; a scan that goes up to it; the first
 -- that passes, the list with another element in its place, and whether any passes, by that place;
--- whether every one does; what holds of every element; a scan for one that passes, and two lists that agree; a scan that
--- replaces all that pass.
+-- whether every one does; what holds of every element; two lists that agree; a scan that replaces all that pass.
 --
 -- Not here: counts, and what a change of elements does to them (`Counting`).
 -- Assumes nothing.
-use lib.Seq.{drop-cons, take_all}
-use native.Mathlib.Numerals.{add-one}
+use lib.Seq.{take_all}
 use mathlib.Core.Path.{◌≡◌, refl, sym, ap, ◌∙◌, ap₂}
-use mathlib.Core.Bool.{Bool, true, false, cond, not, false≢true, ◌&&◌, ◌||◌, or_assoc, or-false}
+use mathlib.Core.Bool.{Bool, true, false, cond, not, false≢true, ◌&&◌, ◌||◌}
 use mathlib.Core.List.{List, [], ◌∷◌, ◌++◌, map, append-nil}
 use Prim.Native.Nat.{ℕ, zero, suc, ◌+◌, ◌≤◌, ◌<◌}
 use native.Mathlib.Nat.{not-suc-le-zero, le_of_suc-le-suc}
@@ -19,6 +17,7 @@ use native.Mathlib.Omega.{arith}
 use borrow.Author.Tests.{lt-ltb}
 use lib.Dec.{ltb, leb-suc-suc}
 use lib.ListN.{length, get_or, set, take, drop, drop_of_length-le}
+use Rattle.std.specs.List.{list_any}
 use Rattle.octets.specs.Lists.{every}
 use Rattle.octets.specs.Search.{any, first_or, index_where, replace_first, replace_all}
 use Rattle.octets.proofs.Booleans.{cond_of, and_left, and_right}
@@ -100,6 +99,12 @@ module _ {A : Type 0} (p : A → Bool) where
       by true ih = refl
       by false ih = ap {B = List A} (λ r. x ∷ r) ih
 
+  -- std's word for it
+  pub any-list : (l : List A) → list_any p l ≡ any p l
+  unfolding any
+  any-list [] = refl
+  any-list (x ∷ xs) = ap (λ (b : Bool). p x || b) (any-list xs)
+
   pub any-index : (l : List A) → any p l ≡ ltb (index_where p l) (length l)
   unfolding any index_where
   any-index [] = refl
@@ -145,16 +150,7 @@ module _ {A : Type 0} (p : A → Bool) where
       pub replace_first-each : (l : List A) → ((k : ℕ) → P (get_or l k d)) → (k : ℕ) → P (get_or (replace_first p y l) k d)
       replace_first-each l h k = rw (replace_first-index y l) (set-each l h (index_where p l) k)
 
--- ---- one passes: one element further in search of it, and the end of the search; two lists that agree
-
-module _ {A : Type 0} (p : A → Bool) (found : Bool) (l : List A) (i : ℕ) (d : A) where
-  pub any-more : i < length l → (found || p (get_or l i d) || any p (drop (i + 1) l)) ≡ (found || any p (drop i l))
-  unfolding any
-  any-more h = or_assoc found (p (get_or l i d)) (any p (drop (i + 1) l)) ∙ rw (add-one, drop-cons l i d h)
-
-  pub any-done : length l ≤ i → found ≡ (found || any p (drop i l))
-  unfolding any
-  any-done h = rw (drop_of_length-le l h) (sym (or-false found))
+-- ---- two lists that agree
 
 -- two lists agree where their elements do, and none passes that the longer has more
 pub any-agree : {A B : Type 0} (p : A → Bool) (q : B → Bool) (d : A) (e : B) (xs : List A) (ys : List B) → length ys ≤ length xs

@@ -1,7 +1,6 @@
--- What a buffer holds at its front, and how long a form's value is.
+-- What a buffer holds at its front, once a text was decoded into it.
 --
--- In order: the front of a buffer that a run was stored to; a value is no longer than its form; the front of a buffer of
--- 4,096 bytes that the value at a place was decoded into.
+-- In order: a text that is decoded into a buffer of any size; a value of a form, in a buffer of 4,096 bytes.
 --
 -- Not here: where a form's values stand (`form`, `Answers`).
 -- Assumes nothing.
@@ -13,6 +12,7 @@ use lib.ListN.{length, take, replicate, length-take, length-drop, length-replica
 use lib.Seq.{sets, length-sets}
 use Rattle.octets.specs.Lists.{part}
 use Rattle.octets.proofs.Stores.{part-sets-same}
+use Rattle.form_coding.specs.Coding.{decode}
 use Rattle.form_coding.proofs.RoundTrip.{decode-length}
 use Rattle.form.specs.Places.{view_as, view_of}
 use Rattle.form.specs.declared.Count.{Count}
@@ -21,10 +21,22 @@ use Rattle.protocol.specs.Limits.{most_form}
 use Rattle.form.specs.declared.Place.{Place}
 use Rattle.form.specs.Content.{only_value}
 
+-- ---- a text that is decoded
+
+-- what was stored at the front of the buffer l
+pub front_stored : (l v m : List ℕ) (n : ℕ) → m ≡ sets l 0 v → n ≡ length v → length v ≤ length l → take n m ≡ v
+front_stored l v m n stored count fits = rw (count, stored) (part-sets-same l 0 v (omega arith))
+
+-- a text is no longer once it is decoded
+pub front_decoded : (l v m : List ℕ) (n : ℕ) → m ≡ sets l 0 (decode v) → n ≡ length (decode v) → length v ≤ length l → take n m ≡ decode v
+front_decoded l v m n stored count fits = front_stored l (decode v) m n stored count (omega (arith, decode-length v))
+
+pub ruleset decoded = (front_decoded, decode-length)
+
 -- ---- a value of a form
 
 -- a value is no longer than its form
-pub value-length : (s : List ℕ) (p : Place) → length (only_value (view_of s p)) ≤ length s
+value-length : (s : List ℕ) (p : Place) → length (only_value (view_of s p)) ≤ length s
 unfolding view_as only_value
 value-length s p = by p.count
   where
@@ -38,8 +50,6 @@ value-length s p = by p.count
     by Missing = omega arith
     by Once = omega (arith, decode-length v, short)
     by Repeated = omega arith
-
--- ---- the front of a buffer
 
 -- the first n bytes of the buffer m are v
 pub record Front (m : List ℕ) (n : ℕ) (v : List ℕ) : Type 0 where

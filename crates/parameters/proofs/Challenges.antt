@@ -7,14 +7,14 @@ use Rattle.form.specs.Content.{Value, missing, once, repeated, only_value}
 use Rattle.protocol.specs.Authorization.{challenge_given}
 use Rattle.protocol.specs.Token.{is_sound_verifier, challenge_of, challenge_answered}
 
-pub given-read : (v : Value) → read_digest (only_value v) ≡ challenge_given v
+pub given_read : (v : Value) → read_digest (only_value v) ≡ challenge_given v
 unfolding only_value challenge_given read_digest is_digest_text
-given-read missing = refl
-given-read (once text) = refl
-given-read repeated = refl
+given_read missing = refl
+given_read (once text) = refl
+given_read repeated = refl
 
-pub answered-by : (v : Value) → challenge_of (only_value v) ≡ challenge_answered v
+pub answered_by : (v : Value) → challenge_of (only_value v) ≡ challenge_answered v
 unfolding only_value challenge_answered is_sound_verifier
-answered-by missing = refl
-answered-by (once text) = refl
-answered-by repeated = refl
+answered_by missing = refl
+answered_by (once text) = refl
+answered_by repeated = refl

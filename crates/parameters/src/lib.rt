@@ -2,71 +2,88 @@
 // the scope that they ask for, the handle that they present, the state that is to be sent back, the code challenge that they give
 // or answer.
 //
-// A place comes from form::read, and lies within its form, which is no longer than a form that is read. The token store
-// is not looked at.
+// A value is asked of a `Field`: a form that is read, and the place of a name in it. The token store is not looked at.
 #![tactic(auto)]
 
-ghost use Rattle.std.specs.Prelude.{◌≡◌, true, ◌≤◌, length};
+mod fields;
+
+ghost use Rattle.std.specs.Prelude.{◌≡◌, true, ◌<◌, ◌≤◌, ◌^◌, length};
+ghost use Rattle.std.specs.Fn.{FnOnceTakesAt, FnOnceReturnsAt};
 ghost use Rattle.octets.specs.Lists.{every};
 ghost use Rattle.encoding.specs.Hex.{read_handle};
+ghost use Rattle.form_coding.specs.Coding.{decode};
 ghost use Rattle.form.specs.Content.{only_value};
-ghost use Rattle.form.specs.Places.{view_of, Within};
 ghost use Rattle.client_registry.specs.Registry.{fit_registry};
 ghost use Rattle.client_registry.specs.Lookup.{find_client};
-ghost use Rattle.protocol.specs.Limits.{most_form};
 ghost use Rattle.protocol.specs.Requests.{scope_asked, fits, scope_given};
 ghost use Rattle.protocol.specs.Authorization.{is_sound_state, is_bad_state, challenge_given};
 ghost use Rattle.protocol.specs.Token.{is_unreserved, is_sound_verifier, challenge_of, challenge_answered};
+ghost use Rattle.parameters.specs.Fields.{said_by};
 
-use client_registry::FoundClient;
-use encoding::{DIGEST_SIZE, DigestText, HandleText};
-use form::Place;
+use client_registry::Entry;
+use encoding::{Digest, Handle};
+pub use fields::Field;
 use protocol::ScopeAsked;
 use protocol::limits::{LEAST_VERIFIER, MOST_FORM, MOST_STATE, MOST_VERIFIER};
-use scope::{Scope, ScopeValue};
+use scope::Scope;
+
+// What `read` makes of a coded text of up to N bytes, decoded.
+#[tactic(auto, using(crate::proofs::Buffers::decoded))]
+pub fn with_decoded<const N: usize, R, F: FnOnce(&[u8]) -> R>(coded: &[u8], read: F) -> R
+    requires size { N < 2 ^ 63 }
+    requires short { length coded.now ≤ N }
+    requires takes { FnOnceTakesAt F.FnOnce read (decode coded.now) }
+    ensures { FnOnceReturnsAt F.FnOnce read (decode coded.now) result }
+{
+    let mut buffer = [0u8; N];
+    let n = form_coding::decode_into(coded, &mut buffer);
+    read(&buffer[..n])
+}
+
+// What `read` makes of a value, decoded: it is empty where the name is missing or repeated.
+pub fn with_value<R, F: FnOnce(&[u8]) -> R>(field: &Field<'_>, read: F) -> R
+    requires { FnOnceTakesAt F.FnOnce read (only_value (said_by field.now)) }
+    ensures { FnOnceReturnsAt F.FnOnce read (only_value (said_by field.now)) result }
+{
+    with_decoded::<MOST_FORM, _, _>(field.coded_value(), read)
+}
 
 // The client that a value names: none where the name is missing or repeated, since no id is empty.
-pub fn client_named(registry: &[u8], s: &[u8], p: Place) -> FoundClient
-    requires { (fit_registry registry.now ≡ true) × Within s.now p × (length s.now ≤ most_form) }
-    ensures { result ≡ find_client registry.now (only_value (view_of s.now p)) }
+pub fn client_named(registry: &[u8], field: &Field<'_>) -> Option<Entry>
+    requires { fit_registry registry.now ≡ true }
+    ensures { result ≡ find_client registry.now (only_value (said_by field.now)) }
 {
-    let mut buffer = [0u8; MOST_FORM];
-    let n = form::value_into(s, p, &mut buffer);
-    client_registry::find(registry, &buffer[..n])
+    with_value(field, |id| client_registry::find(registry, id))
 }
 
 // The code or token that a value presents.
-pub fn handle_presented(s: &[u8], p: Place) -> HandleText
-    requires { Within s.now p × (length s.now ≤ most_form) }
-    ensures { result ≡ read_handle (only_value (view_of s.now p)) }
+pub fn handle_presented(field: &Field<'_>) -> Option<Handle>
+    ensures { result ≡ read_handle (only_value (said_by field.now)) }
 {
-    let mut buffer = [0u8; MOST_FORM];
-    let n = form::value_into(s, p, &mut buffer);
-    encoding::read_handle(&buffer[..n])
+    with_value(field, encoding::read_handle)
 }
 
 // ---- scope
 
 // The scope that a value asks for.
-pub fn scope_asked(s: &[u8], p: Place) -> ScopeAsked
-    requires { Within s.now p × (length s.now ≤ most_form) }
-    ensures { result ≡ scope_asked (view_of s.now p) }
+#[tactic(auto, using(crate::proofs::Scopes::asked_steps), unfolding(protocol::specs::Requests::asked_by))]
+pub fn scope_asked(field: &Field<'_>) -> ScopeAsked
+    ensures { result ≡ scope_asked (said_by field.now) }
 {
-    if form::is_missing(s, p) {
+    if field.is_missing() {
         return ScopeAsked::Everything;
     }
-    if form::is_repeated(s, p) {
+    if field.is_repeated() {
         return ScopeAsked::Unreadable;
     }
-    let mut buffer = [0u8; MOST_FORM];
-    let n = form::value_into(s, p, &mut buffer);
-    match scope::read(&buffer[..n]) {
-        ScopeValue::Names(set) => ScopeAsked::Only(set.bits),
-        ScopeValue::Invalid => ScopeAsked::Unreadable,
+    match with_value(field, scope::read) {
+        Some(set) => ScopeAsked::Only(set.bits),
+        None => ScopeAsked::Unreadable,
     }
 }
 
 // Whether the scope asked for is within a set: a value that is no scope never is.
+#[tactic(auto, unfolding(protocol::specs::Requests::fits))]
 pub fn scope_fits(asked: ScopeAsked, held: u8) -> bool
     ensures { result ≡ fits asked held }
 {
@@ -78,6 +95,7 @@ pub fn scope_fits(asked: ScopeAsked, held: u8) -> bool
 }
 
 // The scope that is given of a set: all of it where none is asked for.
+#[tactic(auto, unfolding(protocol::specs::Requests::scope_given))]
 pub fn scope_given(asked: ScopeAsked, held: u8) -> u8
     ensures { result ≡ scope_given asked held }
 {
@@ -91,6 +109,7 @@ pub fn scope_given(asked: ScopeAsked, held: u8) -> u8
 // ---- state
 
 // Whether a state may be sent back: not too long, and of printable characters and spaces alone.
+#[tactic(auto, unfolding(protocol::specs::Authorization::is_sound_state))]
 pub fn is_sound_state(state: &[u8]) -> bool
     ensures { result ≡ is_sound_state state.now }
 {
@@ -98,28 +117,25 @@ pub fn is_sound_state(state: &[u8]) -> bool
 }
 
 // Whether the state was repeated or may not be sent back. One that is missing is no fault.
-pub fn is_bad_state(s: &[u8], p: Place) -> bool
-    requires { Within s.now p × (length s.now ≤ most_form) }
-    ensures { result ≡ is_bad_state (view_of s.now p) }
+#[tactic(auto, using(crate::proofs::States::bad_state))]
+pub fn is_bad_state(field: &Field<'_>) -> bool
+    ensures { result ≡ is_bad_state (said_by field.now) }
 {
-    let mut buffer = [0u8; MOST_FORM];
-    let n = form::value_into(s, p, &mut buffer);
-    form::is_repeated(s, p) | !is_sound_state(&buffer[..n])
+    field.is_repeated() | !with_value(field, is_sound_state)
 }
 
 // ---- code challenges
 
 // The challenge that a value gives: none where it is missing, repeated or no digest.
-pub fn challenge_given(s: &[u8], p: Place) -> DigestText
-    requires { Within s.now p × (length s.now ≤ most_form) }
-    ensures { result ≡ challenge_given (view_of s.now p) }
+#[tactic(auto, using(crate::proofs::Challenges::given_read))]
+pub fn challenge_given(field: &Field<'_>) -> Option<Digest>
+    ensures { result ≡ challenge_given (said_by field.now) }
 {
-    let mut buffer = [0u8; MOST_FORM];
-    let n = form::value_into(s, p, &mut buffer);
-    encoding::read_digest(&buffer[..n])
+    with_value(field, encoding::read_digest)
 }
 
 // Whether a verifier may have the byte: letters, digits and - . _ ~
+// Not one with the bytes that a form keeps, which differ in the last: each is the list of its own RFC.
 fn is_unreserved(c: u8) -> bool
     ensures { result ≡ is_unreserved c }
 {
@@ -132,43 +148,30 @@ fn is_unreserved(c: u8) -> bool
         | (c == b'~')
 }
 
-fn all_unreserved(text: &[u8]) -> bool
-    ensures { result ≡ every is_unreserved text.now }
-{
-    let mut ok = true;
-    for i in 0..text.len() {
-        ok = ok & is_unreserved(text[i]);
-    }
-    ok
-}
-
 // Whether a text may be a code verifier.
+#[tactic(auto, unfolding(protocol::specs::Token::is_sound_verifier))]
 fn is_sound_verifier(text: &[u8]) -> bool
     ensures { result ≡ is_sound_verifier text.now }
 {
-    (LEAST_VERIFIER <= text.len()) & (text.len() <= MOST_VERIFIER) & all_unreserved(text)
+    (LEAST_VERIFIER <= text.len())
+        & (text.len() <= MOST_VERIFIER)
+        & octets::all(text, is_unreserved)
 }
 
 // The challenge that a verifier answers, its digest: none where it may be no verifier.
-fn challenge_of(verifier: &[u8]) -> DigestText
+fn challenge_of(verifier: &[u8]) -> Option<Digest>
     ensures { result ≡ challenge_of verifier.now }
 {
     if !is_sound_verifier(verifier) {
-        return DigestText {
-            valid: false,
-            bytes: [0u8; DIGEST_SIZE],
-        };
+        return None;
     }
-    let bytes = sha256::digest(verifier);
-    DigestText { valid: true, bytes }
+    Some(sha256::digest(verifier))
 }
 
 // The challenge that a value answers as a verifier: none where it is missing or repeated.
-pub fn challenge_answered(s: &[u8], p: Place) -> DigestText
-    requires { Within s.now p × (length s.now ≤ most_form) }
-    ensures { result ≡ challenge_answered (view_of s.now p) }
+#[tactic(auto, using(crate::proofs::Challenges::answered_by))]
+pub fn challenge_answered(field: &Field<'_>) -> Option<Digest>
+    ensures { result ≡ challenge_answered (said_by field.now) }
 {
-    let mut buffer = [0u8; MOST_FORM];
-    let n = form::value_into(s, p, &mut buffer);
-    challenge_of(&buffer[..n])
+    with_value(field, challenge_of)
 }

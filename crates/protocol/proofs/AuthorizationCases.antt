@@ -10,26 +10,9 @@ use mathlib.Core.Path.{refl}
 use mathlib.Core.List.{List, [], ◌∷◌, ◌++◌}
 use lib.ListN.{length, replicate}
 use Rattle.octets.specs.Text.{bytes}
-use Rattle.octets.specs.Lists.{every, same, index_of, split_on, grow}
-use Rattle.octets.specs.Search.{count, any, index_where, replace_first}
-use Rattle.octets.specs.BigEndian.{big_endian_bytes}
-use Rattle.encoding.specs.Hex.{hex_text, hex_digit, hex_value}
-use Rattle.encoding.specs.Base64.{read_digest, is_digest_text, is_base64, base64_bytes, group_bytes, sound_group, sextet, none}
-use Rattle.form_coding.specs.Coding.{decode_after, first_byte, extra, is_escape, plain, well_formed, sound, encode, encode_byte}
-use Rattle.form.specs.Content.{is_well_formed_form, piece_name, piece_value, gives, add, value_in, form_value, is_missing, is_repeated, only_value, is_once}
-use Rattle.scope.specs.Set.{names}
-use Rattle.scope.specs.Value.{bit_from, bit_of, union, read_scope}
-use Rattle.client_registry.specs.Registry.{sound_text, sound_id, sound_redirect, sound_secret, sound_field, sound_common, sound_public, sound_confidential, sound_record, record_size, records_behind, sound_records, distinct, fit_registry}
-use Rattle.client_registry.specs.Sample.{record_of, registry_of, sample_confidential, sample_public, sample_clients, sample_registry}
-use Rattle.token_store.specs.Store.{free_slot, concat, encode_slot}
-use Rattle.token_store.specs.Fit.{fit_link, fit_slot}
+use Rattle.client_registry.specs.Sample.{sample_registry}
 use Rattle.token_store.specs.declared.Slot.{Slot}
-use Rattle.protocol.specs.Answers.{word_text}
-use Rattle.protocol.specs.Refusals.{first_of}
-use Rattle.protocol.specs.Requests.{asked_by, scope_asked, fits, scope_given, unless_refused}
-use Rattle.protocol.specs.Authorization.{is_bad_query, query_client, is_bad_client, is_bad_redirect, is_sound_state, is_bad_state, challenge_given, is_bad_challenge, is_invalid_request, is_other_type, is_invalid_scope, code_asked, page_reasons, redirect_reasons, read_authorization, separator, state_text, location, code_parameter, error_parameter, location_text}
-use Rattle.protocol.specs.Granting.{refused_plan, code_plan, plan_for, slots_by}
-use Rattle.protocol.specs.Outcomes.{serve_authorization}
+use Rattle.protocol.proofs.Computing.{text_definitions, registry_definitions, slot_definitions, decision_definitions, authorization_definitions}
 use Rattle.protocol.proofs.Cases.{authorization, holding, slot, linked, challenge, challenging, count_up, Case, Row, row}
 
 -- ---- the usual call: at clock 1000 and a fresh store, random bytes 00 to 13 hex, an output of 1,024 bytes, a farm, which mostly is 7
@@ -102,7 +85,7 @@ long_query n = let start = bytes "response_type=code&client_id=barnapp" ++ chall
 -- ---- pages
 
 pub pages : List Row
-unfolding every same index_of split_on grow any index_where big_endian_bytes hex_value decode_after first_byte extra is_escape plain well_formed sound encode encode_byte is_well_formed_form piece_name piece_value gives add value_in form_value is_missing is_repeated only_value is_once sound_text sound_id sound_redirect sound_secret sound_field sound_common sound_public sound_confidential sound_record record_size records_behind sound_records distinct fit_registry record_of registry_of sample_confidential sample_public sample_clients sample_registry free_slot concat encode_slot fit_link fit_slot word_text first_of unless_refused is_bad_query query_client is_bad_client is_bad_redirect is_sound_state is_bad_state challenge_given is_bad_challenge is_invalid_request is_other_type page_reasons redirect_reasons read_authorization separator state_text location error_parameter location_text refused_plan plan_for slots_by serve_authorization
+unfolding text_definitions registry_definitions slot_definitions decision_definitions authorization_definitions
 pages =
     -- 5: over 4,096 bytes
     row (page_on (long_query 4097) 5) refl
@@ -145,7 +128,7 @@ pages =
 
 -- what a code computes by is unfolded too, so that a definition that grants one computes to another answer
 pub errors : List Row
-unfolding every same index_of split_on grow count any index_where replace_first big_endian_bytes hex_text hex_digit hex_value read_digest is_digest_text is_base64 base64_bytes group_bytes sound_group sextet none decode_after first_byte extra is_escape plain well_formed sound encode encode_byte is_well_formed_form piece_name piece_value gives add value_in form_value is_missing is_repeated only_value is_once names bit_from bit_of union read_scope sound_text sound_id sound_redirect sound_secret sound_field sound_common sound_public sound_confidential sound_record record_size records_behind sound_records distinct fit_registry record_of registry_of sample_confidential sample_public sample_clients sample_registry free_slot concat encode_slot fit_link fit_slot word_text first_of asked_by scope_asked fits scope_given unless_refused is_bad_query query_client is_bad_client is_bad_redirect is_sound_state is_bad_state challenge_given is_bad_challenge is_invalid_request is_other_type is_invalid_scope code_asked page_reasons redirect_reasons read_authorization separator state_text location error_parameter code_parameter location_text refused_plan code_plan plan_for slots_by serve_authorization
+unfolding text_definitions registry_definitions slot_definitions decision_definitions authorization_definitions
 errors =
     -- `invalid_request`: response_type missing, empty, repeated
     row (invalid_request "client_id=s6BhdRkqt3" "") refl
@@ -206,7 +189,7 @@ errors =
 -- ---- codes
 
 pub codes : List Row
-unfolding every same index_of split_on grow count any index_where replace_first big_endian_bytes hex_text hex_digit hex_value read_digest is_digest_text is_base64 base64_bytes group_bytes sound_group sextet none decode_after first_byte extra is_escape plain well_formed sound encode encode_byte is_well_formed_form piece_name piece_value gives add value_in form_value is_missing is_repeated only_value is_once names bit_from bit_of union read_scope sound_text sound_id sound_redirect sound_secret sound_field sound_common sound_public sound_confidential sound_record record_size records_behind sound_records distinct fit_registry record_of registry_of sample_confidential sample_public sample_clients sample_registry free_slot concat encode_slot fit_link fit_slot first_of asked_by scope_asked fits scope_given unless_refused is_bad_query query_client is_bad_client is_bad_redirect is_sound_state is_bad_state challenge_given is_bad_challenge is_invalid_request is_other_type is_invalid_scope code_asked page_reasons redirect_reasons read_authorization separator state_text location code_parameter location_text code_plan plan_for slots_by serve_authorization
+unfolding text_definitions registry_definitions slot_definitions decision_definitions authorization_definitions
 codes =
     -- a query of 4,096 bytes is read
     row (barn_code (long_query 4096) "") refl

@@ -6,26 +6,11 @@ use mathlib.Core.Bool.{false}
 use mathlib.Core.List.{List, [], ◌∷◌, ◌++◌}
 use lib.ListN.{replicate}
 use Rattle.octets.specs.Text.{bytes}
-use Rattle.octets.specs.Lists.{every, same, index_of, split_on, grow}
-use Rattle.octets.specs.Search.{count, any, index_where, replace_first}
-use Rattle.octets.specs.BigEndian.{big_endian_bytes}
-use Rattle.encoding.specs.Hex.{hex_text, hex_digit, hex_value}
-use Rattle.encoding.specs.Base64.{read_digest, is_digest_text, is_base64, base64_bytes, group_bytes, sound_group, sextet, none}
-use Rattle.form_coding.specs.Coding.{decode_after, first_byte, extra, is_escape, plain, well_formed, sound, encode, encode_byte}
-use Rattle.form.specs.Content.{is_well_formed_form, piece_name, piece_value, gives, add, value_in, form_value, is_missing, is_repeated, only_value, is_once}
-use Rattle.scope.specs.Set.{names}
-use Rattle.scope.specs.Value.{bit_from, bit_of, union, read_scope}
-use Rattle.client_registry.specs.Registry.{sound_text, sound_id, sound_redirect, sound_secret, sound_field, sound_common, sound_public, sound_confidential, sound_record, record_size, records_behind, sound_records, distinct, fit_registry, Client}
-use Rattle.client_registry.specs.Sample.{record_of, registry_of, sample_confidential, sample_public, sample_clients, sample_registry}
-use Rattle.token_store.specs.Store.{free_slot, concat, encode_slot}
-use Rattle.token_store.specs.Fit.{fit_link, fit_slot}
+use Rattle.client_registry.specs.Registry.{Client}
+use Rattle.client_registry.specs.Sample.{registry_of, sample_registry}
+use Rattle.token_store.specs.Store.{free_slot}
 use Rattle.token_store.specs.declared.Slot.{Slot}
-use Rattle.protocol.specs.Answers.{word_text}
-use Rattle.protocol.specs.Refusals.{first_of}
-use Rattle.protocol.specs.Requests.{asked_by, scope_asked, fits, scope_given, unless_refused}
-use Rattle.protocol.specs.Authorization.{is_bad_query, query_client, is_bad_client, is_bad_redirect, is_sound_state, is_bad_state, challenge_given, is_bad_challenge, is_invalid_request, is_other_type, is_invalid_scope, code_asked, page_reasons, redirect_reasons, read_authorization, separator, state_text, location, code_parameter, error_parameter, location_text}
-use Rattle.protocol.specs.Granting.{refused_plan, code_plan, plan_for, slots_by}
-use Rattle.protocol.specs.Outcomes.{serve_authorization}
+use Rattle.protocol.proofs.Computing.{text_definitions, registry_definitions, slot_definitions, decision_definitions, authorization_definitions}
 use Rattle.protocol.proofs.Cases.{authorization, ShortStore, holding, lastly, slot, linked, from, spent, challenge, challenging, count_up, Case, Row, row}
 
 -- ---- slots
@@ -152,7 +137,7 @@ named asked scope = record {
 -- ---- the table
 
 pub room_and_clashes : List Row
-unfolding every same index_of split_on grow count any index_where replace_first big_endian_bytes hex_text hex_digit hex_value decode_after first_byte extra is_escape plain well_formed sound encode encode_byte is_well_formed_form piece_name piece_value gives add value_in form_value is_missing is_repeated only_value is_once sound_text sound_id sound_redirect sound_secret sound_field sound_common sound_public sound_confidential sound_record record_size records_behind sound_records distinct fit_registry record_of registry_of sample_confidential sample_public sample_clients sample_registry free_slot concat encode_slot fit_link fit_slot word_text first_of scope_asked fits scope_given unless_refused is_bad_query query_client is_bad_client is_bad_redirect is_sound_state is_bad_state challenge_given is_bad_challenge is_invalid_request is_other_type is_invalid_scope code_asked page_reasons redirect_reasons read_authorization separator state_text location code_parameter error_parameter location_text refused_plan code_plan plan_for slots_by serve_authorization
+unfolding text_definitions registry_definitions slot_definitions decision_definitions authorization_definitions
 room_and_clashes =
     -- no slot is free or has run out; a denied request is not told so
     row (full (crowded 0 [])) refl
@@ -203,7 +188,7 @@ room_and_clashes =
     ∷ []
 
 pub times : List Row
-unfolding every same index_of split_on grow count any index_where replace_first big_endian_bytes hex_text hex_digit hex_value decode_after first_byte extra is_escape plain well_formed sound encode encode_byte is_well_formed_form piece_name piece_value gives add value_in form_value is_missing is_repeated only_value is_once sound_text sound_id sound_redirect sound_secret sound_field sound_common sound_public sound_confidential sound_record record_size records_behind sound_records distinct fit_registry record_of registry_of sample_confidential sample_public sample_clients sample_registry free_slot concat encode_slot fit_link fit_slot word_text first_of scope_asked fits scope_given unless_refused is_bad_query query_client is_bad_client is_bad_redirect is_sound_state is_bad_state challenge_given is_bad_challenge is_invalid_request is_other_type is_invalid_scope code_asked page_reasons redirect_reasons read_authorization separator state_text location code_parameter error_parameter location_text refused_plan code_plan plan_for slots_by serve_authorization
+unfolding text_definitions registry_definitions slot_definitions decision_definitions authorization_definitions
 times =
     -- T is the larger of clock and mark: it is stored, the expiry is T plus 600, and slots run out by it
     row (issued 1000 (holding 1000 []) (holding 1000 (code_at 1000 ∷ []))) refl
@@ -228,7 +213,7 @@ times =
 
 -- what a code holds and where it is sent, by the client, with the owner's decision 1
 pub held : List Row
-unfolding public addresses every same index_of split_on grow count any index_where replace_first big_endian_bytes hex_text hex_digit hex_value read_digest is_digest_text is_base64 base64_bytes group_bytes sound_group sextet none decode_after first_byte extra is_escape plain well_formed sound encode encode_byte is_well_formed_form piece_name piece_value gives add value_in form_value is_missing is_repeated only_value is_once names bit_from bit_of union read_scope sound_text sound_id sound_redirect sound_secret sound_field sound_common sound_public sound_confidential sound_record record_size records_behind sound_records distinct fit_registry record_of registry_of sample_confidential sample_public sample_clients sample_registry free_slot concat encode_slot fit_link fit_slot first_of asked_by scope_asked fits scope_given unless_refused is_bad_query query_client is_bad_client is_bad_redirect is_sound_state is_bad_state challenge_given is_bad_challenge is_invalid_request is_other_type is_invalid_scope code_asked page_reasons redirect_reasons read_authorization separator state_text location code_parameter location_text code_plan plan_for slots_by serve_authorization
+unfolding text_definitions registry_definitions slot_definitions decision_definitions authorization_definitions public addresses
 held =
     -- the farm that the owner allowed, of 32 bits and any but 0; the client's number, and its set
     row (holds sample_registry "response_type=code&client_id=s6BhdRkqt3&scope=bill" 1

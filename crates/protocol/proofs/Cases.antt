@@ -12,6 +12,7 @@ use Prim.Native.Nat.{ℕ, zero, suc, ◌-◌, ◌^◌, ◌≤◌, ◌<◌, max}
 use mathlib.Core.Path.{◌≡◌, refl, sym, ap, ap₂, ◌∙◌, subst}
 use mathlib.Core.Bool.{Bool, true, false, not, false≢true, ◌&&◌}
 use mathlib.Core.List.{List, [], ◌∷◌, ◌++◌}
+use Rattle.std.specs.Prelude.{Ok, Err}
 use native.Mathlib.Nat.{zero-add, not-suc-le-zero}
 use native.Mathlib.Omega.{arith}
 use borrow.Author.Tests.{eqb-true, eq-eqb, leb-true, ltb-true}
@@ -33,13 +34,11 @@ use Rattle.token_store.specs.declared.Slot.{Slot}
 use Rattle.token_store.proofs.Codec.{length-encode, decode-encode}
 use Rattle.protocol.specs.declared.Refusal.TheVariants.{Unfit}
 use Rattle.protocol.specs.declared.Input.TheVariants.{Buffers, Registry, Store as bad_store, Clock}
-use Rattle.protocol.specs.declared.Decision.{Decision}
-use Rattle.protocol.specs.declared.Decision.TheVariants.{Grant, Refuse}
 use Rattle.protocol.specs.declared.AuthorizationAnswer.{AuthorizationAnswer}
 use Rattle.protocol.specs.declared.TokenAnswer.{TokenAnswer}
 use Rattle.protocol.specs.declared.CheckAnswer.{CheckAnswer}
 use Rattle.protocol.specs.declared.CheckAnswer.TheVariants.{Refused, NotLive, Live}
-use Rattle.protocol.specs.Answers.{refusal_number, error_number, status_of}
+use Rattle.protocol.specs.Answers.{refusal_number, error_number, status_of, Decision}
 use Rattle.protocol.specs.Refusals.{when, first_of}
 use Rattle.protocol.specs.Outcomes.{Handed, Endpoint, Outcome, admit, outcome_by, outcome, authorization_endpoint, token_endpoint, revocation_endpoint, check_endpoint, authorization_outcome, token_outcome, revocation_outcome, check_outcome, without_random, clock_alone}
 
@@ -154,12 +153,12 @@ handed_to (revocation header body) clock random output = without_random clock ou
 handed_to (check presented) clock random output = clock_alone clock
 
 abbrev pub refusal_of : Decision → ℕ
-refusal_of Grant = 0
-refusal_of (Refuse r) = refusal_number r
+refusal_of (Ok tt) = 0
+refusal_of (Err r) = refusal_number r
 
 abbrev pub error_of : Decision → ℕ
-error_of Grant = 0
-error_of (Refuse r) = error_number r
+error_of (Ok tt) = 0
+error_of (Err r) = error_number r
 
 -- the numbers of an answer to an authenticated client: refusal, status, error word and challenge
 abbrev reply_numbers : TokenAnswer → List ℕ
@@ -252,11 +251,11 @@ pub record Result (Answer : Type 0) : Type 0 where
 
 module _ {Answer : Type 0} (endpoint : Endpoint Answer) (registry : List ℕ) (st : Store) (clock : ℕ) (random : List ℕ) where
   abbrev pub result_by : Decision → Result Answer
-  result_by Grant =
+  result_by (Ok tt) =
       let t = max clock st.time in
       let served = endpoint.serve (clients_of registry) t st.slots random in
       record { answer = served.answer; text = served.text; after = record { time = t; slots = served.slots } }
-  result_by (Refuse refusal) = record { answer = endpoint.refuse refusal; text = []; after = st }
+  result_by (Err refusal) = record { answer = endpoint.refuse refusal; text = []; after = st }
 
 abbrev pub same_fields : Slot → Slot → List Bool
 same_fields s u =
@@ -417,8 +416,8 @@ module _ {A : Type 0} (endpoint : Endpoint A) (registry : List ℕ) (st : Store)
   outcome-by : (d : Decision)
       → outcome_by endpoint registry (encode st) handed d ≡ written handed (result_by endpoint registry st handed.clock handed.random d)
   unfolding outcome_by
-  outcome-by Grant = rw back
-  outcome-by (Refuse r) = refl
+  outcome-by (Ok tt) = rw back
+  outcome-by (Err r) = refl
 
 module _ {A : Type 0} (endpoint : Endpoint A) (registry : List ℕ) (l : ShortStore) (e : is_writable l ≡ true) (handed : Handed) where
   whole : (unfit : Bool) → endpoint.unfit handed ≡ unfit

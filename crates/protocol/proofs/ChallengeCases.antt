@@ -16,30 +16,13 @@ use mathlib.Core.Bool.{Bool, true, cond}
 use mathlib.Core.List.{List, [], ◌∷◌, ◌++◌}
 use lib.ListN.{take, drop, replicate}
 use Rattle.octets.specs.Text.{bytes}
-use Rattle.octets.specs.Lists.{every, same, index_of, split_on, grow}
 use Rattle.octets.specs.BigEndian.{big_endian_bytes, big_endian_from}
-use Rattle.octets.specs.Search.{count, any, index_where, first_or, replace_first, replace_all}
-use Rattle.encoding.specs.Hex.{hex_text, hex_digit, hex_value, is_handle_text, unhex, read_handle}
-use Rattle.encoding.specs.Base64.{read_digest, is_digest_text, is_base64, base64_bytes, group_bytes, sound_group, sextet, none}
-use Rattle.sha256.specs.Functions.{rotr, ch, maj, big_sigma, small_sigma}
-use Rattle.sha256.specs.Constants.{round_constants, initial_hash}
-use Rattle.sha256.specs.Digest.{padding, padded_message, block_words, schedule_word, next_word, extended, schedule, first_sum, second_sum, round, rounds, added, compressed, hashed, words_bytes, state_bytes, digest}
-use Rattle.form_coding.specs.Coding.{decode_after, first_byte, extra, is_escape, plain, well_formed, sound, encode, encode_byte}
-use Rattle.form.specs.Content.{is_well_formed_form, piece_name, piece_value, gives, add, value_in, form_value, is_missing, is_repeated, only_value, is_once}
-use Rattle.scope.specs.Set.{names}
-use Rattle.scope.specs.Value.{bit_from, bit_of, union, read_scope, chosen, spaced, scope_text}
 use Rattle.client_registry.specs.Sample.{sample_confidential, sample_public}
-use Rattle.token_store.specs.Store.{link_to, free_slot, concat, encode_slot}
-use Rattle.token_store.specs.Fit.{fit_link, fit_slot}
+use Rattle.token_store.specs.Store.{link_to, free_slot}
 use Rattle.token_store.specs.declared.Slot.{Slot}
-use Rattle.protocol.specs.Answers.{word_text}
-use Rattle.protocol.specs.Refusals.{first_of}
-use Rattle.protocol.specs.Requests.{asked_by, scope_asked, fits, scope_given, unless_refused}
-use Rattle.protocol.specs.Authorization.{is_bad_query, query_client, is_bad_client, is_bad_redirect, is_sound_state, is_bad_state, challenge_given, is_bad_challenge, is_invalid_request, is_other_type, is_invalid_scope, code_asked, page_reasons, redirect_reasons, read_authorization, separator, state_text, location, code_parameter, error_parameter, location_text}
-use Rattle.protocol.specs.ClientForms.{is_invalid_form, lower_case, same_any_case, credentials, is_bad_header, header_id, header_secret, presented_id, presented_secret, is_unclear_id, is_impostor, call_client, is_invalid_client, form_reasons}
-use Rattle.protocol.specs.Token.{is_unreserved, is_sound_verifier, challenge_answered, read_exchange, read_refresh, read_credentials, read_grant, read_token, error_reply, refusal_reply, token_reply, refresh_member, challenges}
-use Rattle.protocol.specs.Granting.{refused_plan, code_plan, exchange_plan, refresh_plan, credentials_plan, plan_for, slots_by, check_slots}
-use Rattle.protocol.specs.Outcomes.{serve_authorization, reply_text, serve_token, serve_check}
+use Rattle.protocol.specs.Authorization.{challenge_given}
+use Rattle.protocol.specs.Token.{is_unreserved}
+use Rattle.protocol.proofs.Computing.{text_definitions, slot_definitions, digest_definitions, decision_definitions, authorization_definitions, client_definitions, token_definitions, credentials_definitions, check_definitions}
 use Rattle.protocol.proofs.Cases.{authorization, ShortStore, slot, linked, spent, challenge, challenging, count_up, Case, Row}
 use Rattle.protocol.proofs.TokenRows.{agrees_on, row_on}
 use Rattle.protocol.proofs.TokenCases.{clients, registry, registry-fit, registry-clients, handle, code, unbound_code, refresh_token, twin, access, refresh, renewed, some, crowded, at, held, held_beside, invalid_request, challenged, invalid_grant, no_room, clash, both_tokens, access_alone, two_handles, next_handles, Visit, row, call, refused, basic, exchange, addressless, barn, refreshing, new_access, new_refresh}
@@ -124,7 +107,7 @@ issues_none store number word =
 -- ---- the table of queries
 
 pub challenge_cases : List Row
-unfolding every same index_of split_on grow count any index_where replace_first big_endian_bytes hex_text hex_digit hex_value read_digest is_digest_text is_base64 base64_bytes group_bytes sound_group sextet none decode_after first_byte extra is_escape plain well_formed sound encode encode_byte is_well_formed_form piece_name piece_value gives add value_in form_value is_missing is_repeated only_value is_once names bit_from bit_of union read_scope sample_confidential sample_public free_slot concat encode_slot fit_link fit_slot word_text first_of asked_by scope_asked fits scope_given unless_refused is_bad_query query_client is_bad_client is_bad_redirect is_sound_state is_bad_state challenge_given is_bad_challenge is_invalid_request is_other_type is_invalid_scope code_asked page_reasons redirect_reasons read_authorization separator state_text location error_parameter code_parameter location_text refused_plan code_plan plan_for slots_by serve_authorization
+unfolding text_definitions slot_definitions decision_definitions authorization_definitions sample_confidential sample_public
 challenge_cases =
     -- ---- `invalid_request` by redirect. "A challenge with another or no method": none, an empty one, `plain`, `s256`, a byte less, a byte
     -- more; "Repeats are refused as for scope."
@@ -260,7 +243,7 @@ longest =
 -- ---- the table of exchanges
 
 pub verifier_cases : List Row
-unfolding every same index_of split_on grow hex_text hex_digit hex_value is_handle_text unhex read_handle read_digest is_digest_text is_base64 base64_bytes group_bytes sound_group sextet none decode_after first_byte extra is_escape plain well_formed sound is_well_formed_form piece_name piece_value gives add value_in form_value names bit_from bit_of union read_scope chosen spaced scope_text sample_confidential sample_public count any index_where first_or replace_first replace_all free_slot big_endian_bytes concat encode_slot fit_link fit_slot word_text is_missing is_repeated only_value is_once asked_by scope_asked fits scope_given is_invalid_scope is_invalid_form lower_case same_any_case credentials is_bad_header header_id header_secret presented_id presented_secret is_unclear_id is_impostor call_client is_invalid_client form_reasons challenge_given is_sound_verifier challenge_answered read_exchange read_refresh read_credentials read_grant read_token error_reply refusal_reply token_reply refresh_member challenges first_of unless_refused refused_plan exchange_plan refresh_plan credentials_plan plan_for slots_by check_slots reply_text serve_token serve_check big_endian_from rotr ch maj big_sigma small_sigma round_constants initial_hash padding padded_message block_words schedule_word next_word extended schedule first_sum second_sum round rounds added compressed hashed words_bytes state_bytes digest
+unfolding text_definitions slot_definitions digest_definitions decision_definitions client_definitions token_definitions credentials_definitions check_definitions sample_confidential sample_public challenge_given big_endian_from
 verifier_cases =
     -- ---- the RFC's example, a public client's code of kind 6, for which the redirect_uri is ignored; a confidential client's of kind 7, with a
     -- verifier of 128 characters, the first of them an escape

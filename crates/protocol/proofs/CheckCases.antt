@@ -4,18 +4,11 @@ use Prim.Native.String.{String}
 use mathlib.Core.Path.{refl}
 use mathlib.Core.List.{List, [], ◌∷◌}
 use Rattle.octets.specs.Text.{bytes}
-use Rattle.octets.specs.Lists.{every, same}
-use Rattle.octets.specs.Search.{first_or}
-use Rattle.octets.specs.BigEndian.{big_endian_bytes}
-use Rattle.encoding.specs.Hex.{hex_value, is_handle_text, unhex, read_handle}
-use Rattle.client_registry.specs.Registry.{sound_text, sound_id, sound_redirect, sound_secret, sound_field, sound_common, sound_public, sound_confidential, sound_record, record_size, records_behind, sound_records, distinct, fit_registry}
-use Rattle.client_registry.specs.Sample.{record_of, registry_of, sample_confidential, sample_public, sample_clients, sample_registry}
-use Rattle.token_store.specs.Store.{free_slot, concat, encode_slot}
-use Rattle.token_store.specs.Fit.{fit_link, fit_slot}
+use Rattle.client_registry.specs.Sample.{sample_registry}
+use Rattle.token_store.specs.Store.{free_slot}
 use Rattle.token_store.specs.declared.Slot.{Slot}
 use Rattle.protocol.specs.Refusals.{first_of}
-use Rattle.protocol.specs.Granting.{check_slots}
-use Rattle.protocol.specs.Outcomes.{serve_check}
+use Rattle.protocol.proofs.Computing.{text_definitions, registry_definitions, slot_definitions, check_definitions}
 use Rattle.protocol.proofs.Cases.{check, ShortStore, holding, lastly, slot, from, count_up, Case, Row, row}
 
 -- ---- calls
@@ -53,7 +46,7 @@ not_live presented clock slots = checks presented clock (holding 0 slots) (0 ∷
 -- ---- the table
 
 pub checked : List Row
-unfolding every same first_or big_endian_bytes hex_value is_handle_text unhex read_handle sound_text sound_id sound_redirect sound_secret sound_field sound_common sound_public sound_confidential sound_record record_size records_behind sound_records distinct fit_registry record_of registry_of sample_confidential sample_public sample_clients sample_registry free_slot concat encode_slot fit_link fit_slot first_of check_slots serve_check
+unfolding text_definitions registry_definitions slot_definitions check_definitions first_of
 checked =
     -- live while T is below the expiry, with the seconds from T to it
     row (live 4999 1 (access 5000 ∷ [])) refl

@@ -13,27 +13,11 @@ use mathlib.Core.Bool.{true}
 use mathlib.Core.List.{List, [], ◌∷◌, ◌++◌}
 use lib.ListN.{replicate}
 use Rattle.octets.specs.Text.{bytes}
-use Rattle.octets.specs.Lists.{every, same, index_of, split_on, grow}
-use Rattle.octets.specs.BigEndian.{big_endian_bytes}
-use Rattle.octets.specs.Search.{count, any, index_where, first_or, replace_first}
-use Rattle.encoding.specs.Hex.{hex_text, hex_digit, hex_value, is_handle_text, unhex, read_handle}
-use Rattle.encoding.specs.Base64.{is_base64, base64_bytes, group_bytes, sound_group, sextet, none}
-use Rattle.form_coding.specs.Coding.{decode_after, first_byte, extra, is_escape, plain, well_formed, sound}
-use Rattle.form.specs.Content.{is_well_formed_form, piece_name, piece_value, gives, add, value_in, form_value, is_missing, is_repeated, only_value, is_once}
 use Rattle.scope.specs.Set.{names}
-use Rattle.scope.specs.Value.{bit_from, bit_of, union, read_scope, chosen, spaced, scope_text}
 use Rattle.client_registry.specs.Sample.{sample_confidential, sample_public}
-use Rattle.token_store.specs.Store.{free_slot, concat, encode_slot}
-use Rattle.token_store.specs.Fit.{fit_link, fit_slot}
+use Rattle.token_store.specs.Store.{free_slot}
 use Rattle.token_store.specs.declared.Slot.{Slot}
-use Rattle.protocol.specs.Answers.{word_text}
-use Rattle.protocol.specs.Refusals.{first_of}
-use Rattle.protocol.specs.Requests.{asked_by, scope_asked, fits, scope_given, unless_refused}
-use Rattle.protocol.specs.Authorization.{is_invalid_scope}
-use Rattle.protocol.specs.ClientForms.{is_invalid_form, lower_case, same_any_case, credentials, is_bad_header, header_id, header_secret, presented_id, presented_secret, is_unclear_id, is_impostor, call_client, is_invalid_client, form_reasons}
-use Rattle.protocol.specs.Token.{challenge_answered, read_exchange, read_refresh, read_credentials, read_grant, read_token, error_reply, refusal_reply, token_reply, refresh_member, challenges}
-use Rattle.protocol.specs.Granting.{refused_plan, exchange_plan, refresh_plan, credentials_plan, plan_for, slots_by, check_slots}
-use Rattle.protocol.specs.Outcomes.{reply_text, serve_token, serve_check}
+use Rattle.protocol.proofs.Computing.{text_definitions, slot_definitions, decision_definitions, client_definitions, token_definitions, credentials_definitions, check_definitions}
 use Rattle.protocol.proofs.Cases.{check, ShortStore, holding, slot, linked, from, spent, count_up, Case, Row}
 use Rattle.protocol.proofs.TokenRows.{agrees_on, row_on}
 use Rattle.protocol.proofs.TokenCases.{clients, registry, registry-fit, registry-clients, handle, code, unbound_code, refresh_token, access_token, until, twin, refresh_twin, access, refresh, renewed, some, crowded, at, held, held_beside, last_used, Said, said, invalid_request, invalid_client, challenged, invalid_grant, invalid_scope, unsupported, no_room, clash, both_tokens, access_alone_of, access_alone, two_handles, next_handles, Visit, row, call, refused, refuses, basic, exchange, barn, refreshing, new_access, new_refresh}
@@ -118,7 +102,7 @@ farmless s = linked s.link (slot s.kind s.handle s.client 0 s.scope s.expiry)
 -- ---- the table
 
 pub credentials_cases : List Row
-unfolding every same index_of split_on grow hex_text hex_digit hex_value is_handle_text unhex read_handle is_base64 base64_bytes group_bytes sound_group sextet none decode_after first_byte extra is_escape plain well_formed sound is_well_formed_form piece_name piece_value gives add value_in form_value names bit_from bit_of union read_scope chosen spaced scope_text sample_confidential sample_public count any index_where first_or replace_first free_slot big_endian_bytes concat encode_slot fit_link fit_slot word_text is_missing is_repeated only_value is_once asked_by scope_asked fits scope_given is_invalid_scope is_invalid_form lower_case same_any_case credentials is_bad_header header_id header_secret presented_id presented_secret is_unclear_id is_impostor call_client is_invalid_client form_reasons challenge_answered read_exchange read_refresh read_credentials read_grant read_token error_reply refusal_reply token_reply refresh_member challenges first_of unless_refused refused_plan exchange_plan refresh_plan credentials_plan plan_for slots_by check_slots reply_text serve_token serve_check
+unfolding text_definitions slot_definitions decision_definitions client_definitions token_definitions credentials_definitions check_definitions sample_confidential sample_public
 credentials_cases =
     -- ---- success, status 200: "confidential clients only .. no refresh token, one slot". The RFC's example, at a fresh store
     row

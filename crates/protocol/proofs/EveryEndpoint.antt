@@ -5,20 +5,19 @@ use Prim.Native.Nat.{ℕ, ◌+◌, ◌^◌}
 use mathlib.Core.Path.{◌≡◌, refl}
 use mathlib.Core.Bool.{Bool, true, false}
 use mathlib.Core.List.{List, [], ◌∷◌, ◌++◌, map}
+use Rattle.std.specs.Prelude.{Ok, Err}
 use lib.ListN.{replicate}
-use Rattle.octets.specs.Lists.{every, same}
 use Rattle.octets.specs.BigEndian.{big_endian_from, big_endian_bytes}
-use Rattle.client_registry.specs.Registry.{sound_text, sound_id, sound_redirect, sound_secret, sound_field, sound_common, sound_public, sound_confidential, sound_record, record_size, records_behind, sound_records, distinct, fit_registry}
-use Rattle.client_registry.specs.Sample.{record_of, registry_of, sample_confidential, sample_public, sample_clients, sample_registry}
-use Rattle.token_store.specs.Store.{cut, concat, tabulate, encode_slot, decode_slot, decode, encode}
-use Rattle.token_store.specs.Fit.{fit_link, fit_slot, fit_store}
+use Rattle.client_registry.specs.Sample.{sample_registry}
+use Rattle.token_store.specs.Store.{cut, concat, tabulate, decode_slot, decode, encode}
+use Rattle.token_store.specs.Fit.{fit_store}
 use Rattle.protocol.specs.declared.Refusal.{Refusal}
 use Rattle.protocol.specs.declared.Refusal.TheVariants.{Unfit}
 use Rattle.protocol.specs.declared.Input.TheVariants.{Store}
-use Rattle.protocol.specs.declared.Decision.TheVariants.{Grant, Refuse}
 use Rattle.protocol.specs.Answers.{refusal_number}
 use Rattle.protocol.specs.Refusals.{Reason}
 use Rattle.protocol.specs.Outcomes.{Endpoint, Outcome, unfit_reasons, outcome_by}
+use Rattle.protocol.proofs.Computing.{text_definitions, registry_definitions, slot_definitions}
 
 -- ---- refusals 1 to 4: a reason's number where it applies, else 0
 
@@ -38,7 +37,7 @@ reasons-in-order : map applying
     ∷ unfit_reasons true sample_registry [] 0
     ∷ [])
     ≡ (1 ∷ 2 ∷ 3 ∷ 4 ∷ []) ∷ (0 ∷ 2 ∷ 3 ∷ 4 ∷ []) ∷ (0 ∷ 0 ∷ 3 ∷ 4 ∷ []) ∷ (0 ∷ 0 ∷ 3 ∷ 0 ∷ []) ∷ (1 ∷ 0 ∷ 3 ∷ 0 ∷ []) ∷ []
-unfolding number applying every same big_endian_from sound_text sound_id sound_redirect sound_secret sound_field sound_common sound_public sound_confidential sound_record record_size records_behind sound_records distinct fit_registry record_of registry_of sample_confidential sample_public sample_clients sample_registry cut tabulate decode_slot decode fit_link fit_slot fit_store concat encode_slot big_endian_bytes
+unfolding text_definitions registry_definitions slot_definitions number applying big_endian_from cut tabulate decode_slot decode fit_store
 reasons-in-order = refl
 
 -- ---- what is stored and written
@@ -53,7 +52,7 @@ clockwork = record {
 
 -- at the time 1600, with an output of three bytes
 abbrev runs : ℕ → Outcome ℕ
-runs clock = outcome_by clockwork [] (big_endian_bytes 8 1600) (record { clock = clock; random = []; output = 1 ∷ 2 ∷ 3 ∷ [] }) Grant
+runs clock = outcome_by clockwork [] (big_endian_bytes 8 1600) (record { clock = clock; random = []; output = 1 ∷ 2 ∷ 3 ∷ [] }) (Ok tt)
 
 -- T is the larger of clock and time, and is stored; the output beyond the text is untouched
 outcomes-around : runs 1100 ∷ runs 1700 ∷ []
@@ -64,7 +63,7 @@ unfolding clockwork outcome_by decode encode concat big_endian_from big_endian_b
 outcomes-around = refl
 
 -- a refusal leaves both
-refusal-around : outcome_by clockwork [] (5 ∷ []) (record { clock = 1; random = []; output = 1 ∷ 2 ∷ [] }) (Refuse (Unfit Store))
+refusal-around : outcome_by clockwork [] (5 ∷ []) (record { clock = 1; random = []; output = 1 ∷ 2 ∷ [] }) (Err (Unfit Store))
     ≡ record { answer = 3; output = 1 ∷ 2 ∷ []; store = 5 ∷ [] }
 unfolding clockwork outcome_by
 refusal-around = refl

@@ -8,6 +8,7 @@ use Prim.Native.Nat.{ℕ, ◌+◌, ◌*◌, ◌≤◌}
 use mathlib.Core.Path.{◌≡◌, refl}
 use mathlib.Core.Bool.{Bool, true, false, cond}
 use mathlib.Core.List.{List, [], ◌++◌}
+use Rattle.std.specs.Prelude.{Ok, Err}
 use native.Mathlib.Omega.{arith}
 use borrow.Author.Tests.{leb-true, ltb-false, not-false}
 use lib.Dec.{leb, eqb, lit≤, lit<}
@@ -37,10 +38,8 @@ use Rattle.protocol.specs.declared.ErrorWord.{ErrorWord}
 use Rattle.protocol.specs.declared.ErrorWord.TheVariants.{InvalidRequest, InvalidClient, InvalidGrant, InvalidScope, UnsupportedGrantType, UnsupportedResponseType, AccessDenied, TemporarilyUnavailable, ServerError, UnauthorizedClient}
 use Rattle.protocol.specs.declared.Refusal.{Refusal}
 use Rattle.protocol.specs.declared.Refusal.TheVariants.{Unfit, ErrorPage, Redirect, Token, Failed}
-use Rattle.protocol.specs.declared.Decision.{Decision}
-use Rattle.protocol.specs.declared.Decision.TheVariants.{Grant, Refuse}
 use Rattle.protocol.specs.Limits.{most_state, least_output, code_random, token_random, longest_location, longest_reply}
-use Rattle.protocol.specs.Answers.{word_text}
+use Rattle.protocol.specs.Answers.{word_text, Decision}
 use Rattle.protocol.specs.Authorization.{query_client, read_authorization, is_sound_state, separator, state_text, location, code_parameter, error_parameter, location_text}
 use Rattle.protocol.specs.Token.{read_token, error_reply, refusal_reply, token_reply, refresh_member}
 use Rattle.protocol.specs.Revocation.{read_revocation, revocation_reply}
@@ -94,14 +93,14 @@ module _ (redirect : List ℕ) (short : length redirect ≤ redirect_room) (stat
   -- of any random bytes and decision
   pub location-length : (random : List ℕ) (d : Decision) → length (location_text redirect state (first_handle random) d) ≤ longest_location
   unfolding location_text code_parameter error_parameter
-  location-length random Grant =
+  location-length random (Ok tt) =
       with-parameter _ (omega (arith, length-append (bytes "code=") (hex_text (first_handle random)), hex-most random))
-  location-length random (Refuse (Unfit i)) = omega arith
-  location-length random (Refuse (ErrorPage p)) = omega arith
-  location-length random (Refuse (Redirect w)) =
+  location-length random (Err (Unfit i)) = omega arith
+  location-length random (Err (ErrorPage p)) = omega arith
+  location-length random (Err (Redirect w)) =
       with-parameter _ (omega (arith, length-append (bytes "error=") (word_text w), word-length w))
-  location-length random (Refuse (Token w)) = omega arith
-  location-length random (Refuse (Failed f)) = omega arith
+  location-length random (Err (Token w)) = omega arith
+  location-length random (Err (Failed f)) = omega arith
 
 -- ---- the reply
 
@@ -121,14 +120,14 @@ member-length random false = omega arith
 -- of any random bytes, plan and decision
 pub reply-length : (random : List ℕ) (plan : Plan) (d : Decision) → length (reply_text random plan d) ≤ longest_reply
 unfolding reply_text token_reply
-reply-length random plan Grant =
+reply-length random plan (Ok tt) =
     simp length-append (omega (arith, hex-most random, member-length random plan.brings_refresh, text-length plan.scope))
-reply-length random plan (Refuse r) = refusal-length r
+reply-length random plan (Err r) = refusal-length r
 
 revocation-length : (d : Decision) → length (revocation_reply d) ≤ longest_reply
 unfolding revocation_reply
-revocation-length Grant = omega arith
-revocation-length (Refuse r) = refusal-length r
+revocation-length (Ok tt) = omega arith
+revocation-length (Err r) = refusal-length r
 
 -- ---- an outcome: what is answered is within the output
 
@@ -209,7 +208,7 @@ revocation-within registry store header body clock output e =
 -- ---- texts of the full lengths
 
 -- an address of 200 bytes, and a state of 200 that are all written as escapes
-pub longest-location : length (location_text (replicate 200 97) (once (replicate 200 37)) (replicate 20 0) Grant) ≡ longest_location
+pub longest-location : length (location_text (replicate 200 97) (once (replicate 200 37)) (replicate 20 0) (Ok tt)) ≡ longest_location
 unfolding location_text location separator state_text is_sound_state code_parameter any every encode encode_byte hex_text hex_digit
 longest-location = refl
 

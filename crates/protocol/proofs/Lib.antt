@@ -1,5 +1,6 @@
 -- Laws of the definitions in specs/, and the definitions by computation: a table of cases over the outcome functions, with the starred
--- cases of document 01 and the rest of its visit.
+-- cases of document 01 and the rest of its visit. Computing: what the tables compute with.
+pub mod Computing
 pub mod Reasons
 pub mod Lengths
 pub mod AnswerNumbers

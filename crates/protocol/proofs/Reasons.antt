@@ -7,21 +7,20 @@ use Prim.Native.Nat.{ℕ, ◌<◌}
 use mathlib.Core.Path.{◌≡◌, refl, sym, ◌∙◌}
 use mathlib.Core.Bool.{Bool, true, false, cond, not, ◌&&◌}
 use mathlib.Core.List.{List, [], ◌∷◌}
+use Rattle.std.specs.Prelude.{Ok, Err}
 use borrow.Author.Tests.{not-true}
 use lib.ListN.{length, get_or}
 use Rattle.octets.specs.Lists.{every}
 use Rattle.octets.proofs.Lists.{every-at}
 use Rattle.protocol.specs.declared.Refusal.TheVariants.{Failed}
 use Rattle.protocol.specs.declared.Failure.TheVariants.{Clash}
-use Rattle.protocol.specs.declared.Decision.{Decision}
-use Rattle.protocol.specs.declared.Decision.TheVariants.{Grant, Refuse}
-use Rattle.protocol.specs.Answers.{is_grant}
+use Rattle.protocol.specs.Answers.{is_grant, Decision}
 use Rattle.protocol.specs.Refusals.{Reason, when, first_of}
 
 -- reasons are passed until one applies, or none is left
 pub data First : List Reason → Decision → Type 0 where
-  none : First [] Grant
-  stop : {r : Reason} {rs : List Reason} → r.applies ≡ true → First (r ∷ rs) (Refuse r.refusal)
+  none : First [] (Ok tt)
+  stop : {r : Reason} {rs : List Reason} → r.applies ≡ true → First (r ∷ rs) (Err r.refusal)
   pass : {r : Reason} {rs : List Reason} {d : Decision} → r.applies ≡ false → First rs d → First (r ∷ rs) d
 
 pub first-counts : {rs : List Reason} {d : Decision} → First rs d → first_of rs ≡ d
@@ -36,7 +35,7 @@ unfolding first_of
 ends-first [] = none
 ends-first (r ∷ rs) = by r.applies refl (ends-first rs)
   where
-    by : (b : Bool) → r.applies ≡ b → First rs (first_of rs) → First (r ∷ rs) (cond b (Refuse r.refusal) (first_of rs))
+    by : (b : Bool) → r.applies ≡ b → First rs (first_of rs) → First (r ∷ rs) (cond b (Err r.refusal) (first_of rs))
     by true e rest = stop e
     by false e rest = pass e rest
 
@@ -47,7 +46,7 @@ grant-every [] = refl
 grant-every (r ∷ rs) = by r.applies (grant-every rs)
   where
     by : (b : Bool) → is_grant (first_of rs) ≡ every (λ r. not r.applies) rs
-        → is_grant (cond b (Refuse r.refusal) (first_of rs)) ≡ (not b && every (λ r. not r.applies) rs)
+        → is_grant (cond b (Err r.refusal) (first_of rs)) ≡ (not b && every (λ r. not r.applies) rs)
     by true e = refl
     by false e = e
 
@@ -61,14 +60,14 @@ unrefused rs e i h = not-true (get_or rs i no_reason).applies (every-at (λ r. n
 -- what holds of each refusal, and of a grant if no reason applies, holds of what is decided
 abbrev pub EachRefusal : (Decision → Type 0) → List Reason → Type 0
 EachRefusal P [] = Unit {0}
-EachRefusal P (r ∷ rs) = P (Refuse r.refusal) × EachRefusal P rs
+EachRefusal P (r ∷ rs) = P (Err r.refusal) × EachRefusal P rs
 
-pub decided : (P : Decision → Type 0) (rs : List Reason) → EachRefusal P rs → (is_grant (first_of rs) ≡ true → P Grant) → P (first_of rs)
+pub decided : (P : Decision → Type 0) (rs : List Reason) → EachRefusal P rs → (is_grant (first_of rs) ≡ true → P (Ok tt)) → P (first_of rs)
 unfolding first_of is_grant
 decided P [] each granted = granted refl
 decided P (r ∷ rs) each granted = by r.applies (decided P rs each.1) granted
   where
-    by : (b : Bool) → ((is_grant (first_of rs) ≡ true → P Grant) → P (first_of rs))
-        → (is_grant (cond b (Refuse r.refusal) (first_of rs)) ≡ true → P Grant) → P (cond b (Refuse r.refusal) (first_of rs))
+    by : (b : Bool) → ((is_grant (first_of rs) ≡ true → P (Ok tt)) → P (first_of rs))
+        → (is_grant (cond b (Err r.refusal) (first_of rs)) ≡ true → P (Ok tt)) → P (cond b (Err r.refusal) (first_of rs))
     by true rest granted = each.0
     by false rest granted = rest granted

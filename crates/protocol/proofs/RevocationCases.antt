@@ -16,25 +16,10 @@ use mathlib.Core.Bool.{true}
 use mathlib.Core.List.{List, [], ◌∷◌, ◌++◌}
 use lib.ListN.{replicate}
 use Rattle.octets.specs.Text.{bytes}
-use Rattle.octets.specs.Lists.{every, same, index_of, split_on, grow}
-use Rattle.octets.specs.BigEndian.{big_endian_bytes}
-use Rattle.octets.specs.Search.{any, index_where, first_or, replace_first, replace_all}
-use Rattle.encoding.specs.Hex.{hex_value, is_handle_text, unhex, read_handle}
-use Rattle.encoding.specs.Base64.{is_base64, base64_bytes, group_bytes, sound_group, sextet, none}
-use Rattle.form_coding.specs.Coding.{decode_after, first_byte, extra, is_escape, plain, well_formed, sound}
-use Rattle.form.specs.Content.{is_well_formed_form, piece_name, piece_value, gives, add, value_in, form_value, is_missing, is_repeated, only_value, is_once}
 use Rattle.client_registry.specs.Sample.{sample_confidential, sample_public}
-use Rattle.token_store.specs.Store.{free_slot, concat, encode_slot}
-use Rattle.token_store.specs.Fit.{fit_link, fit_slot}
+use Rattle.token_store.specs.Store.{free_slot}
 use Rattle.token_store.specs.declared.Slot.{Slot}
-use Rattle.protocol.specs.Answers.{word_text}
-use Rattle.protocol.specs.Refusals.{first_of}
-use Rattle.protocol.specs.Requests.{unless_refused}
-use Rattle.protocol.specs.ClientForms.{is_invalid_form, lower_case, same_any_case, credentials, is_bad_header, header_id, header_secret, presented_id, presented_secret, is_unclear_id, is_impostor, call_client, is_invalid_client, form_reasons}
-use Rattle.protocol.specs.Token.{error_reply, refusal_reply, challenges}
-use Rattle.protocol.specs.Revocation.{read_revocation, revocation_reply}
-use Rattle.protocol.specs.Granting.{refused_plan, revocation_plan, plan_for, slots_by}
-use Rattle.protocol.specs.Outcomes.{serve_revocation}
+use Rattle.protocol.proofs.Computing.{text_definitions, slot_definitions, decision_definitions, client_definitions, revocation_definitions}
 use Rattle.protocol.proofs.Cases.{revocation, ShortStore, lastly, slot, linked, from, spent, challenge, count_up, Row}
 use Rattle.protocol.proofs.TokenRows.{agrees_on, row_on}
 use Rattle.protocol.proofs.TokenCases.{clients, registry, registry-fit, registry-clients, handle, unbound_code, refresh_token, access_token, run_out, until, some, at, Said, said, invalid_request, invalid_client, challenged, invalid_grant, Visit, case_at, call, refused, basic, padded}
@@ -118,7 +103,7 @@ keeps s = revokes_in refresh_shown (s ∷ refresh_token ∷ access_token ∷ s �
 -- ---- the table
 
 pub revocation_cases : List Row
-unfolding every same index_of split_on grow any index_where first_or replace_first replace_all big_endian_bytes hex_value is_handle_text unhex read_handle is_base64 base64_bytes group_bytes sound_group sextet none decode_after first_byte extra is_escape plain well_formed sound is_well_formed_form piece_name piece_value gives add value_in form_value is_missing is_repeated only_value is_once sample_confidential sample_public free_slot concat encode_slot fit_link fit_slot word_text first_of unless_refused is_invalid_form lower_case same_any_case credentials is_bad_header header_id header_secret presented_id presented_secret is_unclear_id is_impostor call_client is_invalid_client form_reasons error_reply refusal_reply challenges read_revocation revocation_reply refused_plan revocation_plan plan_for slots_by serve_revocation
+unfolding text_definitions slot_definitions decision_definitions client_definitions revocation_definitions sample_confidential sample_public
 revocation_cases =
     -- ---- success, status 200, empty: an access token, and a refresh token with the access token of its origin
     row (revokes basic access_shown) refl

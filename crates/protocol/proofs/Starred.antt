@@ -8,33 +8,20 @@ use Prim.Native.Nat.{ℕ}
 use mathlib.Core.Path.{◌≡◌, refl}
 use mathlib.Core.Bool.{Bool, true, ◌&&◌}
 use mathlib.Core.List.{List, [], ◌∷◌, ◌++◌}
+use Rattle.std.specs.Prelude.{Option, Some, None}
 use Rattle.octets.specs.Text.{bytes}
-use Rattle.octets.specs.Lists.{every, same, index_of, split_on, grow}
-use Rattle.octets.specs.Search.{count, any, index_where, first_or, replace_first, bit}
-use Rattle.octets.specs.BigEndian.{big_endian_bytes}
+use Rattle.octets.specs.Lists.{same}
+use Rattle.octets.specs.Search.{bit}
 use Rattle.octets.proofs.Booleans.{and_left, and_right}
 use Rattle.octets.proofs.Lists.{same-eq}
-use Rattle.encoding.specs.Hex.{hex_text, hex_digit, hex_value, is_handle_text, unhex, read_handle}
-use Rattle.encoding.specs.Base64.{standard, read_digest, is_digest_text, is_base64, base64_bytes, group_bytes, sound_group, sextet, none}
-use Rattle.form_coding.specs.Coding.{decode_after, first_byte, extra, is_escape, plain, well_formed, sound, encode, encode_byte}
-use Rattle.form.specs.Content.{is_well_formed_form, piece_name, piece_value, gives, add, value_in, form_value, is_missing, is_repeated, only_value, is_once, Value, missing, once, repeated}
-use Rattle.scope.specs.Set.{names}
-use Rattle.scope.specs.Value.{bit_from, bit_of, union, read_scope, chosen, spaced, scope_text}
-use Rattle.scope.specs.declared.ScopeValue.{ScopeValue}
-use Rattle.scope.specs.declared.ScopeValue.TheVariants.{Names, Invalid}
-use Rattle.client_registry.specs.Registry.{sound_text, sound_id, sound_redirect, sound_secret, sound_field, sound_common, sound_public, sound_confidential, sound_record, record_size, records_behind, sound_records, distinct, fit_registry}
-use Rattle.client_registry.specs.Sample.{record_of, registry_of, sample_confidential, sample_public, sample_clients, sample_registry}
-use Rattle.token_store.specs.Store.{free_slot, concat, encode_slot}
-use Rattle.token_store.specs.Fit.{fit_link, fit_slot}
+use Rattle.encoding.specs.Base64.{standard, is_base64, base64_bytes}
+use Rattle.form_coding.specs.Coding.{encode}
+use Rattle.form.specs.Content.{is_well_formed_form, form_value, Value, missing, once, repeated}
+use Rattle.scope.specs.Value.{read_scope}
+use Rattle.scope.specs.declared.Scope.{Scope}
+use Rattle.client_registry.specs.Sample.{sample_registry}
 use Rattle.token_store.specs.declared.Slot.{Slot}
-use Rattle.protocol.specs.Answers.{word_text}
-use Rattle.protocol.specs.Refusals.{first_of}
-use Rattle.protocol.specs.Requests.{asked_by, scope_asked, fits, scope_given, unless_refused}
-use Rattle.protocol.specs.Authorization.{is_bad_query, query_client, is_bad_client, is_bad_redirect, is_sound_state, is_bad_state, challenge_given, is_bad_challenge, is_invalid_request, is_other_type, is_invalid_scope, code_asked, page_reasons, redirect_reasons, read_authorization, separator, state_text, location, code_parameter, error_parameter, location_text}
-use Rattle.protocol.specs.ClientForms.{is_invalid_form, lower_case, same_any_case, credentials, is_bad_header, header_id, header_secret, presented_id, presented_secret, is_unclear_id, is_impostor, call_client, is_invalid_client, form_reasons}
-use Rattle.protocol.specs.Token.{challenge_answered, read_exchange, read_refresh, read_grant, read_token, error_reply, refusal_reply, token_reply, refresh_member, challenges}
-use Rattle.protocol.specs.Granting.{refused_plan, code_plan, exchange_plan, refresh_plan, plan_for, slots_by}
-use Rattle.protocol.specs.Outcomes.{serve_authorization, reply_text, serve_token}
+use Rattle.protocol.proofs.Computing.{text_definitions, registry_definitions, slot_definitions, decision_definitions, authorization_definitions, client_definitions, token_definitions}
 use Rattle.protocol.proofs.Cases.{authorization, token, holding, slot, from, spent, challenging, Case, Decided, decided, agrees}
 unfoldable pub use Rattle.protocol.proofs.Cases.{count_up}
 
@@ -43,9 +30,9 @@ unfoldable pub use Rattle.protocol.proofs.Cases.{count_up}
 yes : Bool → List ℕ
 yes b = bit b ∷ []
 
-number : ScopeValue → List ℕ
-number (Names s) = s.bits ∷ []
-number Invalid = []
+number : Option Scope → List ℕ
+number (Some s) = s.bits ∷ []
+number None = []
 
 -- how often a form says a name: 0, 1, or 2 for more
 times : Value → List ℕ
@@ -149,7 +136,7 @@ all-stars (decides c ∷ stars) e =
     (decided c (and_left (agrees c) (as_the_paper_has stars) e), all-stars stars (and_right (agrees c) (as_the_paper_has stars) e))
 
 computed : as_the_paper_has cases ≡ true
-unfolding as_the_paper_has cases yes number times rfc_query code_issued every same index_of split_on grow count any index_where first_or replace_first big_endian_bytes hex_text hex_digit hex_value is_handle_text unhex read_handle read_digest is_digest_text is_base64 base64_bytes group_bytes sound_group sextet none decode_after first_byte extra is_escape plain well_formed sound encode encode_byte is_well_formed_form piece_name piece_value gives add value_in form_value is_missing is_repeated only_value is_once names bit_from bit_of union read_scope chosen spaced scope_text sound_text sound_id sound_redirect sound_secret sound_field sound_common sound_public sound_confidential sound_record record_size records_behind sound_records distinct fit_registry record_of registry_of sample_confidential sample_public sample_clients sample_registry free_slot concat encode_slot fit_link fit_slot word_text first_of asked_by scope_asked fits scope_given unless_refused is_bad_query query_client is_bad_client is_bad_redirect is_sound_state is_bad_state challenge_given is_bad_challenge is_invalid_request is_other_type is_invalid_scope code_asked page_reasons redirect_reasons read_authorization separator state_text location code_parameter error_parameter location_text is_invalid_form lower_case same_any_case credentials is_bad_header header_id header_secret presented_id presented_secret is_unclear_id is_impostor call_client is_invalid_client form_reasons challenge_answered read_exchange read_refresh read_grant read_token error_reply refusal_reply token_reply refresh_member challenges refused_plan code_plan exchange_plan refresh_plan plan_for slots_by serve_authorization reply_text serve_token
+unfolding text_definitions registry_definitions slot_definitions decision_definitions authorization_definitions client_definitions token_definitions as_the_paper_has cases yes number times rfc_query code_issued
 computed = refl
 
 -- every starred case stands as the paper has it

@@ -9,6 +9,7 @@ use Prim.Native.Nat.{ℕ, ◌≤◌, max}
 use mathlib.Core.Path.{◌≡◌, refl}
 use mathlib.Core.Bool.{true, false}
 use mathlib.Core.List.{List, []}
+use Rattle.std.specs.Prelude.{Err}
 use native.Mathlib.Omega.{arith}
 use borrow.Author.Tests.{le-ltb}
 use lib.ListN.{length}
@@ -24,7 +25,6 @@ use Rattle.protocol.specs.Refusals.{first_of}
 use Rattle.protocol.specs.Granting.{check_slots}
 use Rattle.protocol.specs.Outcomes.{Endpoint, Handed, outcome, outcome_by, admit, authorization_endpoint, token_endpoint, revocation_endpoint, check_endpoint, authorization_outcome, token_outcome, revocation_outcome, check_outcome, without_random, clock_alone, serve_check}
 use Rattle.protocol.specs.declared.Refusal.TheVariants.{Unfit}
-use Rattle.protocol.specs.declared.Decision.TheVariants.{Refuse}
 use Rattle.protocol.specs.declared.Input.TheVariants.{Store}
 use Rattle.protocol.specs.declared.CheckAnswer.TheVariants.{Refused}
 
@@ -37,19 +37,19 @@ module _ (registry store : List ℕ) (fit : fit_registry registry ≡ true) (oth
   pub authorization-refused : (query : List ℕ) (decision farm : ℕ) (handed : Handed)
       → length handed.random ≡ 20 → 1024 ≤ length handed.output
       → authorization_outcome query decision farm registry store handed
-      ≡ record { answer = record { decision = Refuse (Unfit Store); length = 0 }; output = handed.output; store = store }
+      ≡ record { answer = record { decision = Err (Unfit Store); length = 0 }; output = handed.output; store = store }
   authorization-refused query decision farm handed twenty room =
       refused-by (authorization_endpoint query decision farm) handed (rw (le-ltb (length handed.output) 1024 room, twenty))
 
   pub token-refused : (header body : List ℕ) (handed : Handed) → length handed.random ≡ 40 → 1024 ≤ length handed.output
       → token_outcome header body registry store handed
-      ≡ record { answer = record { decision = Refuse (Unfit Store); challenge = false; length = 0 }; output = handed.output; store = store }
+      ≡ record { answer = record { decision = Err (Unfit Store); challenge = false; length = 0 }; output = handed.output; store = store }
   token-refused header body handed forty room =
       refused-by (token_endpoint header body) handed (rw (le-ltb (length handed.output) 1024 room, forty))
 
   pub revocation-refused : (header body : List ℕ) (clock : ℕ) (output : List ℕ) → 1024 ≤ length output
       → revocation_outcome header body registry store clock output
-      ≡ record { answer = record { decision = Refuse (Unfit Store); challenge = false; length = 0 }; output = output; store = store }
+      ≡ record { answer = record { decision = Err (Unfit Store); challenge = false; length = 0 }; output = output; store = store }
   revocation-refused header body clock output room =
       refused-by (revocation_endpoint header body) (without_random clock output) (le-ltb (length output) 1024 room)
 

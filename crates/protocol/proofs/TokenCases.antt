@@ -15,27 +15,14 @@ use mathlib.Core.Bool.{true, false}
 use mathlib.Core.List.{List, [], ◌∷◌, ◌++◌, map}
 use lib.ListN.{length, replicate}
 use Rattle.octets.specs.Text.{bytes}
-use Rattle.octets.specs.Lists.{every, same, index_of, split_on, grow}
-use Rattle.octets.specs.BigEndian.{big_endian_bytes}
-use Rattle.octets.specs.Search.{count, any, index_where, first_or, replace_first, replace_all}
-use Rattle.encoding.specs.Hex.{hex_text, hex_digit, hex_value, is_handle_text, unhex, read_handle}
-use Rattle.encoding.specs.Base64.{is_base64, base64_bytes, group_bytes, sound_group, sextet, none}
-use Rattle.form_coding.specs.Coding.{decode_after, first_byte, extra, is_escape, plain, well_formed, sound}
-use Rattle.form.specs.Content.{is_well_formed_form, piece_name, piece_value, gives, add, value_in, form_value, is_missing, is_repeated, only_value, is_once}
+use Rattle.octets.specs.Lists.{every, same}
 use Rattle.scope.specs.Set.{names}
-use Rattle.scope.specs.Value.{bit_from, bit_of, union, read_scope, chosen, spaced, scope_text}
-use Rattle.client_registry.specs.Registry.{Client, sound_text, sound_id, sound_redirect, sound_secret, sound_field, sound_common, sound_public, sound_confidential, sound_record, record_size, records_behind, sound_records, distinct, fit_registry, clients_of}
+use Rattle.client_registry.specs.Registry.{Client, record_size, records_behind, fit_registry, clients_of}
 use Rattle.client_registry.specs.Sample.{record_of, registry_of, sample_confidential, sample_public}
-use Rattle.token_store.specs.Store.{free_slot, concat, encode_slot}
-use Rattle.token_store.specs.Fit.{fit_link, fit_slot}
+use Rattle.token_store.specs.Store.{free_slot}
 use Rattle.token_store.specs.declared.Slot.{Slot}
-use Rattle.protocol.specs.Answers.{word_text}
-use Rattle.protocol.specs.Refusals.{first_of}
-use Rattle.protocol.specs.Requests.{asked_by, scope_asked, fits, scope_given, unless_refused}
-use Rattle.protocol.specs.ClientForms.{is_invalid_form, lower_case, same_any_case, credentials, is_bad_header, header_id, header_secret, presented_id, presented_secret, is_unclear_id, is_impostor, call_client, is_invalid_client, form_reasons}
-use Rattle.protocol.specs.Token.{challenge_answered, read_exchange, read_refresh, read_grant, read_token, error_reply, refusal_reply, token_reply, refresh_member, challenges}
-use Rattle.protocol.specs.Granting.{refused_plan, exchange_plan, refresh_plan, plan_for, slots_by}
-use Rattle.protocol.specs.Outcomes.{reply_text, serve_token}
+use Rattle.protocol.specs.ClientForms.{lower_case, same_any_case, credentials, is_bad_header}
+use Rattle.protocol.proofs.Computing.{text_definitions, registry_definitions, slot_definitions, decision_definitions, client_definitions, token_definitions}
 use Rattle.protocol.proofs.TokenRows.{agrees_on, row_on}
 use Rattle.protocol.proofs.Cases.{Call, token, ShortStore, holding, lastly, slot, linked, from, spent, count_up, Case, Row}
 
@@ -52,7 +39,7 @@ pub registry : List ℕ
 registry = registry_of clients
 
 pub registry-fit : fit_registry registry ≡ true
-unfolding registry fit_registry distinct sound_records records_behind record_size sound_record sound_confidential sound_public sound_common sound_field sound_secret sound_redirect sound_id sound_text every same sample_public sample_confidential registry_of record_of
+unfolding registry_definitions registry every same
 registry-fit = refl
 
 pub registry-clients : clients_of registry ≡ clients
@@ -327,7 +314,7 @@ refreshes_in before after = call (crowded before) 1599 two_handles basic refresh
 -- ---- the table
 
 pub token_cases : List Row
-unfolding every same index_of split_on grow hex_text hex_digit hex_value is_handle_text unhex read_handle is_base64 base64_bytes group_bytes sound_group sextet none decode_after first_byte extra is_escape plain well_formed sound is_well_formed_form piece_name piece_value gives add value_in form_value names bit_from bit_of union read_scope chosen spaced scope_text sample_confidential sample_public count any index_where first_or replace_first replace_all free_slot big_endian_bytes concat encode_slot fit_link fit_slot word_text is_missing is_repeated only_value is_once asked_by scope_asked fits scope_given is_invalid_form lower_case same_any_case credentials is_bad_header header_id header_secret presented_id presented_secret is_unclear_id is_impostor call_client is_invalid_client form_reasons challenge_answered read_exchange read_refresh read_grant read_token error_reply refusal_reply token_reply refresh_member challenges first_of unless_refused refused_plan exchange_plan refresh_plan plan_for slots_by reply_text serve_token
+unfolding text_definitions slot_definitions decision_definitions client_definitions token_definitions sample_confidential sample_public
 token_cases =
     -- ---- success, status 200: an exchange of a bound code, of one that is not, and a refresh
     row (exchanges basic exchange) refl
@@ -636,5 +623,5 @@ token_cases =
 -- a header over 512 bytes, and one that decodes to no colon, are bad in themselves: no call shows it, since no client of a registry
 -- has an id and a secret so long, nor an empty secret. Of 510 bytes, of 514, with no colon
 bad-headers : map is_bad_header (padding 500 ∷ padding 504 ∷ bytes "Basic czZCaGRSa3F0Mw==" ∷ []) ≡ false ∷ true ∷ true ∷ []
-unfolding is_bad_header credentials same_any_case lower_case is_base64 base64_bytes group_bytes sound_group sextet none any index_of well_formed sound
+unfolding text_definitions is_bad_header credentials same_any_case lower_case
 bad-headers = refl

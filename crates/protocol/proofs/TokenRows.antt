@@ -6,14 +6,14 @@ use Prim.Native.Nat.{ℕ, max}
 use mathlib.Core.Path.{◌≡◌, sym, ap, ◌∙◌, subst}
 use mathlib.Core.Bool.{Bool, true, false, not, ◌&&◌}
 use mathlib.Core.List.{List}
+use Rattle.std.specs.Prelude.{Ok}
 use borrow.Author.Tests.{not-true}
 use lib.Dec.{leb, ltb}
 use lib.ListN.{length}
 use Rattle.octets.proofs.Booleans.{and_left, and_right, and-three}
 use Rattle.client_registry.specs.Registry.{Client, fit_registry, clients_of}
 use Rattle.token_store.specs.Layout.{latest_time}
-use Rattle.protocol.specs.declared.Decision.{Decision}
-use Rattle.protocol.specs.declared.Decision.TheVariants.{Grant}
+use Rattle.protocol.specs.Answers.{Decision}
 use Rattle.protocol.specs.Refusals.{first_of}
 use Rattle.protocol.proofs.Cases.{Case, AnswerTo, store_of, endpoint_of, admit_by, all_of, is_writable, fit_ledger, Result, result_by, agreements, blank, agrees, Row, row}
 
@@ -35,7 +35,7 @@ agrees_on clients c = is_past (length clients) c && agrees_by c (result_on clien
 
 admitted : (unfit registry_fit store_fit : Bool) (clock : ℕ)
     → unfit ≡ false → registry_fit ≡ true → store_fit ≡ true → ltb latest_time clock ≡ false
-    → admit_by unfit registry_fit store_fit clock ≡ Grant
+    → admit_by unfit registry_fit store_fit clock ≡ Ok tt
 unfolding first_of
 admitted unfit registry_fit store_fit clock u r s c = rw (u, r, s, c)
 

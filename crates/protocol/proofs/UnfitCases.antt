@@ -10,27 +10,11 @@ use mathlib.Core.Path.{refl}
 use mathlib.Core.List.{List, [], ◌∷◌, ◌++◌}
 use lib.ListN.{length, take, replicate}
 use Rattle.octets.specs.Text.{bytes}
-use Rattle.octets.specs.Lists.{every, same, index_of, split_on, grow}
-use Rattle.octets.specs.Search.{count, any, index_where, first_or, replace_first}
-use Rattle.octets.specs.BigEndian.{big_endian_bytes}
-use Rattle.encoding.specs.Hex.{hex_text, hex_digit, hex_value, is_handle_text, unhex, read_handle}
-use Rattle.encoding.specs.Base64.{read_digest, is_digest_text, is_base64, base64_bytes, group_bytes, sound_group, sextet, none}
-use Rattle.form_coding.specs.Coding.{decode_after, first_byte, extra, is_escape, plain, well_formed, sound, encode, encode_byte}
-use Rattle.form.specs.Content.{is_well_formed_form, piece_name, piece_value, gives, add, value_in, form_value, is_missing, is_repeated, only_value, is_once}
-use Rattle.client_registry.specs.Registry.{sound_text, sound_id, sound_redirect, sound_secret, sound_field, sound_common, sound_public, sound_confidential, sound_record, record_size, records_behind, sound_records, distinct, fit_registry}
-use Rattle.client_registry.specs.Sample.{record_of, registry_of, sample_confidential, sample_public, sample_clients, sample_registry}
-use Rattle.token_store.specs.Store.{link_to, free_slot, concat, encode_slot}
-use Rattle.token_store.specs.Fit.{fit_link, fit_slot}
+use Rattle.client_registry.specs.Sample.{sample_registry}
+use Rattle.token_store.specs.Store.{link_to, free_slot}
 use Rattle.token_store.specs.declared.Slot.{Slot}
-use Rattle.protocol.specs.Answers.{word_text}
 use Rattle.protocol.specs.Refusals.{first_of}
-use Rattle.protocol.specs.Requests.{scope_asked, fits, scope_given, unless_refused}
-use Rattle.protocol.specs.Authorization.{is_bad_query, query_client, is_bad_client, is_bad_redirect, is_sound_state, is_bad_state, challenge_given, is_bad_challenge, is_invalid_request, is_other_type, is_invalid_scope, code_asked, page_reasons, redirect_reasons, read_authorization, separator, state_text, location, code_parameter, location_text}
-use Rattle.protocol.specs.ClientForms.{is_invalid_form, form_reasons}
-use Rattle.protocol.specs.Token.{read_token, error_reply, refusal_reply, challenges}
-use Rattle.protocol.specs.Granting.{refused_plan, code_plan, plan_for, slots_by, check_slots}
-use Rattle.protocol.specs.Revocation.{read_revocation, revocation_reply}
-use Rattle.protocol.specs.Outcomes.{serve_authorization, reply_text, serve_token, serve_revocation, serve_check}
+use Rattle.protocol.proofs.Computing.{text_definitions, registry_definitions, slot_definitions, decision_definitions, authorization_definitions, check_definitions, endpoint_definitions}
 use Rattle.protocol.proofs.Cases.{Call, authorization, token, revocation, check, ShortStore, holding, lastly, slot, linked, challenge, challenging, count_up, Case, Row, row}
 
 -- ---- calls
@@ -111,7 +95,7 @@ abbrev buffers_fit : Call → ℕ → List ℕ → Case
 buffers_fit call room random = passes call room random sample_registry (holding 0 []) 1000
 
 pub buffers : List Row
-unfolding every same index_of split_on grow any index_where first_or big_endian_bytes hex_value is_handle_text unhex read_handle decode_after first_byte extra is_escape plain well_formed sound is_well_formed_form piece_name piece_value gives add value_in form_value is_missing is_repeated only_value is_once sound_text sound_id sound_redirect sound_secret sound_field sound_common sound_public sound_confidential sound_record record_size records_behind sound_records distinct fit_registry record_of registry_of sample_confidential sample_public sample_clients sample_registry free_slot concat encode_slot fit_link fit_slot word_text first_of unless_refused is_bad_query query_client is_bad_client is_bad_redirect page_reasons redirect_reasons read_authorization location_text is_invalid_form form_reasons read_token read_revocation error_reply refusal_reply revocation_reply challenges refused_plan plan_for slots_by check_slots serve_authorization reply_text serve_token serve_revocation serve_check
+unfolding text_definitions registry_definitions slot_definitions endpoint_definitions
 buffers =
     -- "output below 1,024"
     row (buffers_unfit empty_query 1023 (count_up 20 0)) refl
@@ -147,7 +131,7 @@ abbrev usual_pass : Call → ShortStore → ℕ → Case
 usual_pass call store clock = passes call 1024 (enough call) sample_registry store clock
 
 pub order : List Row
-unfolding every same index_of split_on grow any index_where first_or big_endian_bytes hex_value is_handle_text unhex read_handle decode_after first_byte extra is_escape plain well_formed sound is_well_formed_form piece_name piece_value gives add value_in form_value is_missing is_repeated only_value is_once sound_text sound_id sound_redirect sound_secret sound_field sound_common sound_public sound_confidential sound_record record_size records_behind sound_records distinct fit_registry record_of registry_of sample_confidential sample_public sample_clients sample_registry free_slot concat encode_slot fit_link fit_slot word_text first_of unless_refused is_bad_query query_client is_bad_client is_bad_redirect page_reasons redirect_reasons read_authorization location_text is_invalid_form form_reasons read_token read_revocation error_reply refusal_reply revocation_reply challenges refused_plan plan_for slots_by check_slots serve_authorization reply_text serve_token serve_revocation serve_check
+unfolding text_definitions registry_definitions slot_definitions endpoint_definitions
 order =
     -- each two neighbours apply, then the second alone: 1 and 2, 2 and 3, 3 and 4, 4 and what comes behind
     row (refused empty_query 1023 (count_up 20 0) [] (holding 0 []) 1000 1) refl
@@ -209,7 +193,7 @@ abbrev link_is : ℕ → List ℕ → ShortStore
 link_is kind link = one_slot (linked link (slot kind (count_up 20 0) 0 7 11 1600))
 
 pub slots : List Row
-unfolding every same first_or big_endian_bytes hex_value is_handle_text unhex read_handle sound_text sound_id sound_redirect sound_secret sound_field sound_common sound_public sound_confidential sound_record record_size records_behind sound_records distinct fit_registry record_of registry_of sample_confidential sample_public sample_clients sample_registry free_slot concat encode_slot fit_link fit_slot first_of check_slots serve_check
+unfolding text_definitions registry_definitions slot_definitions check_definitions first_of
 slots =
     -- kinds go up to 7
     row (store_fit (one_slot (slot 1 (count_up 20 0) 0 7 11 1600))) refl
@@ -325,7 +309,7 @@ abbrev registry_fit : List ℕ → Case
 registry_fit registry = passes no_token 1024 [] registry (holding 0 []) 1000
 
 pub registries : List Row
-unfolding every same first_or big_endian_bytes hex_value is_handle_text unhex read_handle sound_text sound_id sound_redirect sound_secret sound_field sound_common sound_public sound_confidential sound_record record_size records_behind sound_records distinct fit_registry free_slot concat encode_slot fit_link fit_slot first_of check_slots serve_check
+unfolding text_definitions registry_definitions slot_definitions check_definitions first_of
 registries =
     -- kind 1 is 235 bytes behind its kind, kind 2 is 300, and there is no other
     row (registry_fit (kind_is 1)) refl
@@ -398,7 +382,7 @@ registries =
 
 -- clients number from 0: with 64 of them, 63 is the last that a slot may have, and a code has the number of its client
 pub many_clients : List Row
-unfolding every same index_of split_on grow count any index_where first_or replace_first big_endian_bytes hex_text hex_digit hex_value is_handle_text unhex read_handle read_digest is_digest_text is_base64 base64_bytes group_bytes sound_group sextet none decode_after first_byte extra is_escape plain well_formed sound encode encode_byte is_well_formed_form piece_name piece_value gives add value_in form_value is_missing is_repeated only_value is_once sound_text sound_id sound_redirect sound_secret sound_field sound_common sound_public sound_confidential sound_record record_size records_behind sound_records distinct fit_registry free_slot concat encode_slot fit_link fit_slot first_of scope_asked fits scope_given unless_refused is_bad_query query_client is_bad_client is_bad_redirect is_sound_state is_bad_state challenge_given is_bad_challenge is_invalid_request is_other_type is_invalid_scope code_asked page_reasons redirect_reasons read_authorization separator state_text location code_parameter location_text code_plan plan_for slots_by check_slots serve_authorization serve_check
+unfolding text_definitions registry_definitions slot_definitions decision_definitions authorization_definitions check_definitions
 many_clients =
     row (passes no_token 1024 [] (many 64) (one_slot (slot 3 (count_up 20 0) 63 7 1 1600)) 1000) refl
     ∷ row (usual no_token (many 64) (one_slot (slot 3 (count_up 20 0) 64 7 1 1600)) 1000 3) refl

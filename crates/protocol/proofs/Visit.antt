@@ -6,29 +6,9 @@ use Prim.Native.String.{String}
 use mathlib.Core.Path.{refl}
 use mathlib.Core.List.{List, [], ◌∷◌, ◌++◌}
 use Rattle.octets.specs.Text.{bytes}
-use Rattle.octets.specs.Lists.{every, same, index_of, split_on, grow}
-use Rattle.octets.specs.Search.{count, any, index_where, first_or, replace_first, replace_all}
-use Rattle.octets.specs.BigEndian.{big_endian_bytes}
-use Rattle.encoding.specs.Hex.{hex_text, hex_digit, hex_value, is_handle_text, unhex, read_handle}
-use Rattle.encoding.specs.Base64.{is_base64, base64_bytes, group_bytes, sound_group, sextet, none}
-use Rattle.form_coding.specs.Coding.{decode_after, first_byte, extra, is_escape, plain, well_formed, sound, encode, encode_byte}
-use Rattle.form.specs.Content.{is_well_formed_form, piece_name, piece_value, gives, add, value_in, form_value, is_missing, is_repeated, only_value, is_once}
-use Rattle.scope.specs.Set.{names}
-use Rattle.scope.specs.Value.{bit_from, bit_of, union, read_scope, chosen, spaced, scope_text}
-use Rattle.client_registry.specs.Registry.{sound_text, sound_id, sound_redirect, sound_secret, sound_field, sound_common, sound_public, sound_confidential, sound_record, record_size, records_behind, sound_records, distinct, fit_registry}
-use Rattle.client_registry.specs.Sample.{record_of, registry_of, sample_confidential, sample_public, sample_clients, sample_registry}
-use Rattle.token_store.specs.Store.{free_slot, concat, encode_slot}
-use Rattle.token_store.specs.Fit.{fit_link, fit_slot}
+use Rattle.client_registry.specs.Sample.{sample_registry}
 use Rattle.token_store.specs.declared.Slot.{Slot}
-use Rattle.protocol.specs.Answers.{word_text}
-use Rattle.protocol.specs.Refusals.{first_of}
-use Rattle.protocol.specs.Requests.{asked_by, scope_asked, fits, scope_given, unless_refused}
-use Rattle.protocol.specs.Authorization.{is_bad_query, query_client, is_bad_client, is_bad_redirect, is_sound_state, is_bad_state, challenge_given, is_bad_challenge, is_invalid_request, is_other_type, is_invalid_scope, code_asked, page_reasons, redirect_reasons, read_authorization, separator, state_text, location, code_parameter, error_parameter, location_text}
-use Rattle.protocol.specs.ClientForms.{is_invalid_form, lower_case, same_any_case, credentials, is_bad_header, header_id, header_secret, presented_id, presented_secret, is_unclear_id, is_impostor, call_client, is_invalid_client, form_reasons}
-use Rattle.protocol.specs.Token.{challenge_answered, read_exchange, read_refresh, read_grant, read_token, error_reply, refusal_reply, token_reply, refresh_member, challenges}
-use Rattle.protocol.specs.Revocation.{read_revocation, revocation_reply}
-use Rattle.protocol.specs.Granting.{refused_plan, code_plan, exchange_plan, refresh_plan, revocation_plan, plan_for, slots_by, check_slots}
-use Rattle.protocol.specs.Outcomes.{serve_authorization, reply_text, serve_token, serve_revocation, serve_check}
+use Rattle.protocol.proofs.Computing.{text_definitions, registry_definitions, slot_definitions, decision_definitions, authorization_definitions, client_definitions, token_definitions, revocation_definitions, check_definitions}
 use Rattle.protocol.proofs.Cases.{authorization, token, revocation, check, ShortStore, holding, slot, from, spent, count_up, Case, Row, row}
 use Rattle.protocol.proofs.Starred.{rfc_query}
 
@@ -184,7 +164,7 @@ withdrawn time = holding time (spent (code_from 0 1000) ∷ [])
 
 -- "A call at 1600, then exchange with clock 1100: `invalid_grant`. A code issued next with clock 1100 expires at 2200."
 pub night : List Row
-unfolding rfc_query every same index_of split_on grow count any index_where first_or replace_first big_endian_bytes hex_text hex_digit hex_value is_handle_text unhex read_handle is_base64 base64_bytes group_bytes sound_group sextet none decode_after first_byte extra is_escape plain well_formed sound encode encode_byte is_well_formed_form piece_name piece_value gives add value_in form_value is_missing is_repeated only_value is_once names bit_from bit_of union read_scope chosen spaced scope_text sound_text sound_id sound_redirect sound_secret sound_field sound_common sound_public sound_confidential sound_record record_size records_behind sound_records distinct fit_registry record_of registry_of sample_confidential sample_public sample_clients sample_registry free_slot concat encode_slot fit_link fit_slot word_text first_of asked_by scope_asked fits scope_given unless_refused is_bad_query query_client is_bad_client is_bad_redirect is_sound_state is_bad_state challenge_given is_bad_challenge is_invalid_request is_other_type is_invalid_scope code_asked page_reasons redirect_reasons read_authorization separator state_text location code_parameter error_parameter location_text is_invalid_form lower_case same_any_case credentials is_bad_header header_id header_secret presented_id presented_secret is_unclear_id is_impostor call_client is_invalid_client form_reasons challenge_answered read_exchange read_refresh read_grant read_token error_reply refusal_reply token_reply refresh_member challenges refused_plan code_plan exchange_plan refresh_plan plan_for slots_by check_slots serve_authorization reply_text serve_token serve_check
+unfolding text_definitions registry_definitions slot_definitions decision_definitions authorization_definitions client_definitions token_definitions check_definitions rfc_query
 night =
     row (authorized 1000 0 "000102030405060708090a0b0c0d0e0f10111213" (holding 0 []) (holding 1000 (code_from 0 1000 ∷ []))) refl
     ∷ row (checked "" 1600 not_live (holding 1000 (code_from 0 1000 ∷ [])) (holding 1600 (code_from 0 1000 ∷ []))) refl
@@ -200,7 +180,7 @@ night =
 
 -- two codes and their tokens, a refresh for less, and the check of each token
 pub day : List Row
-unfolding rfc_query every same index_of split_on grow count any index_where first_or replace_first big_endian_bytes hex_text hex_digit hex_value is_handle_text unhex read_handle is_base64 base64_bytes group_bytes sound_group sextet none decode_after first_byte extra is_escape plain well_formed sound encode encode_byte is_well_formed_form piece_name piece_value gives add value_in form_value is_missing is_repeated only_value is_once names bit_from bit_of union read_scope chosen spaced scope_text sound_text sound_id sound_redirect sound_secret sound_field sound_common sound_public sound_confidential sound_record record_size records_behind sound_records distinct fit_registry record_of registry_of sample_confidential sample_public sample_clients sample_registry free_slot concat encode_slot fit_link fit_slot word_text first_of asked_by scope_asked fits scope_given unless_refused is_bad_query query_client is_bad_client is_bad_redirect is_sound_state is_bad_state challenge_given is_bad_challenge is_invalid_request is_other_type is_invalid_scope code_asked page_reasons redirect_reasons read_authorization separator state_text location code_parameter error_parameter location_text is_invalid_form lower_case same_any_case credentials is_bad_header header_id header_secret presented_id presented_secret is_unclear_id is_impostor call_client is_invalid_client form_reasons challenge_answered read_exchange read_refresh read_grant read_token error_reply refusal_reply token_reply refresh_member challenges refused_plan code_plan exchange_plan refresh_plan plan_for slots_by check_slots serve_authorization reply_text serve_token serve_check
+unfolding text_definitions registry_definitions slot_definitions decision_definitions authorization_definitions client_definitions token_definitions check_definitions rfc_query
 day =
     row (authorized 1000 100 "6465666768696a6b6c6d6e6f7071727374757677" (holding 1000 (code_from 0 1000 ∷ [])) (two_codes 1000)) refl
     ∷ row (granted first_code 1599 (two_codes 1000) (exchanged 1599)) refl
@@ -216,7 +196,7 @@ day =
 
 -- "Spending a code when the wrong client, or the right one without its redirect, tries it."
 pub tries : List Row
-unfolding rfc_query every same index_of split_on grow count any index_where first_or replace_first big_endian_bytes hex_text hex_digit hex_value is_handle_text unhex read_handle is_base64 base64_bytes group_bytes sound_group sextet none decode_after first_byte extra is_escape plain well_formed sound encode encode_byte is_well_formed_form piece_name piece_value gives add value_in form_value is_missing is_repeated only_value is_once names bit_from bit_of union read_scope chosen spaced scope_text sound_text sound_id sound_redirect sound_secret sound_field sound_common sound_public sound_confidential sound_record record_size records_behind sound_records distinct fit_registry record_of registry_of sample_confidential sample_public sample_clients sample_registry free_slot concat encode_slot fit_link fit_slot word_text first_of asked_by scope_asked fits scope_given unless_refused is_bad_query query_client is_bad_client is_bad_redirect is_sound_state is_bad_state challenge_given is_bad_challenge is_invalid_request is_other_type is_invalid_scope code_asked page_reasons redirect_reasons read_authorization separator state_text location code_parameter error_parameter location_text is_invalid_form lower_case same_any_case credentials is_bad_header header_id header_secret presented_id presented_secret is_unclear_id is_impostor call_client is_invalid_client form_reasons challenge_answered read_exchange read_refresh read_grant read_token error_reply refusal_reply token_reply refresh_member challenges refused_plan code_plan exchange_plan refresh_plan plan_for slots_by check_slots serve_authorization reply_text serve_token serve_check
+unfolding text_definitions registry_definitions slot_definitions decision_definitions authorization_definitions client_definitions token_definitions check_definitions rfc_query
 tries =
     row
     (invalid_grant "" barn_shows 1100 (holding 1000 (code_from 0 1000 ∷ [])) (holding 1100 (code_from 0 1000 ∷ []))) refl
@@ -229,7 +209,7 @@ tries =
 
 -- "A code shown twice is a leak.": by another client it withdraws nothing, by its own all that came from it, the token of a refresh too
 pub leak : List Row
-unfolding rfc_query every same index_of split_on grow count any index_where first_or replace_first replace_all big_endian_bytes hex_text hex_digit hex_value is_handle_text unhex read_handle is_base64 base64_bytes group_bytes sound_group sextet none decode_after first_byte extra is_escape plain well_formed sound encode encode_byte is_well_formed_form piece_name piece_value gives add value_in form_value is_missing is_repeated only_value is_once names bit_from bit_of union read_scope chosen spaced scope_text sound_text sound_id sound_redirect sound_secret sound_field sound_common sound_public sound_confidential sound_record record_size records_behind sound_records distinct fit_registry record_of registry_of sample_confidential sample_public sample_clients sample_registry free_slot concat encode_slot fit_link fit_slot word_text first_of asked_by scope_asked fits scope_given unless_refused is_bad_query query_client is_bad_client is_bad_redirect is_sound_state is_bad_state challenge_given is_bad_challenge is_invalid_request is_other_type is_invalid_scope code_asked page_reasons redirect_reasons read_authorization separator state_text location code_parameter error_parameter location_text is_invalid_form lower_case same_any_case credentials is_bad_header header_id header_secret presented_id presented_secret is_unclear_id is_impostor call_client is_invalid_client form_reasons challenge_answered read_exchange read_refresh read_grant read_token error_reply refusal_reply token_reply refresh_member challenges refused_plan code_plan exchange_plan refresh_plan plan_for slots_by check_slots serve_authorization reply_text serve_token serve_check
+unfolding text_definitions registry_definitions slot_definitions decision_definitions authorization_definitions client_definitions token_definitions check_definitions rfc_query
 leak =
     row (granted first_code 1100 (holding 1000 (code_from 0 1000 ∷ [])) (pair 1100)) refl
     ∷ row (refreshed_at 1200 (pair 1100) (family 1200)) refl
@@ -248,7 +228,7 @@ leak =
 -- "The farmer changes his mind.": a second before the first access token runs out its client revokes the refresh token, which another client
 -- could not. Both access tokens are live before and not after, nor is the refresh token good, with a clock set back by 3,600 either
 pub farewell : List Row
-unfolding rfc_query every same index_of split_on grow count any index_where first_or replace_first replace_all big_endian_bytes hex_text hex_digit hex_value is_handle_text unhex read_handle is_base64 base64_bytes group_bytes sound_group sextet none decode_after first_byte extra is_escape plain well_formed sound encode encode_byte is_well_formed_form piece_name piece_value gives add value_in form_value is_missing is_repeated only_value is_once names bit_from bit_of union read_scope chosen spaced scope_text sound_text sound_id sound_redirect sound_secret sound_field sound_common sound_public sound_confidential sound_record record_size records_behind sound_records distinct fit_registry record_of registry_of sample_confidential sample_public sample_clients sample_registry free_slot concat encode_slot fit_link fit_slot word_text first_of asked_by scope_asked fits scope_given unless_refused is_bad_query query_client is_bad_client is_bad_redirect is_sound_state is_bad_state challenge_given is_bad_challenge is_invalid_request is_other_type is_invalid_scope code_asked page_reasons redirect_reasons read_authorization separator state_text location code_parameter error_parameter location_text is_invalid_form lower_case same_any_case credentials is_bad_header header_id header_secret presented_id presented_secret is_unclear_id is_impostor call_client is_invalid_client form_reasons challenge_answered read_exchange read_refresh read_grant read_token read_revocation error_reply refusal_reply token_reply refresh_member challenges revocation_reply refused_plan code_plan exchange_plan refresh_plan revocation_plan plan_for slots_by check_slots serve_authorization reply_text serve_token serve_revocation serve_check
+unfolding text_definitions registry_definitions slot_definitions decision_definitions authorization_definitions client_definitions token_definitions revocation_definitions check_definitions rfc_query
 farewell =
     row (authorized 1000 0 "000102030405060708090a0b0c0d0e0f10111213" (holding 0 []) (holding 1000 (code_from 0 1000 ∷ []))) refl
     ∷ row (granted first_code 1100 (holding 1000 (code_from 0 1000 ∷ [])) (pair 1100)) refl

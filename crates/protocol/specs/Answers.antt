@@ -1,5 +1,5 @@
 -- The cases of an answer: the error words as texts, and the numbers by which a C host sees each case.
-use Rattle.std.specs.Prelude.{ℕ, Bool, true, false, List}
+use Rattle.std.specs.Prelude.{ℕ, Bool, true, false, List, Result, Ok, Err}
 use Rattle.octets.specs.Text.{bytes}
 use Rattle.protocol.specs.declared.ErrorWord.{ErrorWord}
 use Rattle.protocol.specs.declared.ErrorWord.TheVariants.{InvalidRequest, InvalidClient, InvalidGrant, InvalidScope, UnsupportedGrantType, UnsupportedResponseType, AccessDenied, TemporarilyUnavailable, ServerError, UnauthorizedClient}
@@ -11,8 +11,11 @@ use Rattle.protocol.specs.declared.Failure.{Failure}
 use Rattle.protocol.specs.declared.Failure.TheVariants.{NoRoom, Clash}
 use Rattle.protocol.specs.declared.Refusal.{Refusal}
 use Rattle.protocol.specs.declared.Refusal.TheVariants.{Unfit, ErrorPage, Redirect, Token, Failed}
-use Rattle.protocol.specs.declared.Decision.{Decision}
-use Rattle.protocol.specs.declared.Decision.TheVariants.{Grant, Refuse}
+
+-- whether a call was granted: a code at the authorization endpoint, tokens at the token endpoint; or a revocation done. `Ok tt`
+-- is the grant, `Err r` the refusal r
+abbrev pub Decision : Type 0
+Decision = Result Unit Refusal
 
 -- the words of RFC 6749, sections 4.1.2.1 and 5.2
 unfoldable pub word_text : ErrorWord → List ℕ
@@ -96,10 +99,10 @@ refusal_status (Token w) = word_status w
 refusal_status (Failed f) = failure_status f
 
 abbrev pub status_of : Decision → ℕ
-status_of Grant = 200
-status_of (Refuse r) = refusal_status r
+status_of (Ok tt) = 200
+status_of (Err r) = refusal_status r
 
 -- the call was granted
 unfoldable pub is_grant : Decision → Bool
-is_grant Grant = true
-is_grant (Refuse r) = false
+is_grant (Ok tt) = true
+is_grant (Err r) = false

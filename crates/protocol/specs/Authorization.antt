@@ -1,10 +1,9 @@
 -- The authorization endpoint: how a query is read, and the location that is written (RFC 6749, section 4.1).
-use Rattle.std.specs.Prelude.{ℕ, Bool, true, false, cond, not, ◌&&◌, ◌||◌, List, [], ◌∷◌, ◌++◌, leb, ltb, eqb, length}
+use Rattle.std.specs.Prelude.{ℕ, Bool, true, false, cond, not, ◌&&◌, ◌||◌, List, [], ◌∷◌, ◌++◌, leb, ltb, eqb, length, Option, None, is_none, Ok, Err}
 use Rattle.octets.specs.Text.{bytes}
 use Rattle.octets.specs.Lists.{every, in_class}
 use Rattle.encoding.specs.Hex.{hex_text}
 use Rattle.encoding.specs.Base64.{read_digest}
-use Rattle.encoding.specs.declared.DigestText.{DigestText}
 use Rattle.form_coding.specs.Coding.{encode}
 use Rattle.form.specs.Content.{Value, missing, once, repeated, is_well_formed_form, form_value, is_missing, is_repeated, only_value, is_once}
 use Rattle.client_registry.specs.Registry.{Client}
@@ -14,15 +13,13 @@ use Rattle.protocol.specs.declared.ErrorWord.{ErrorWord}
 use Rattle.protocol.specs.declared.ErrorWord.TheVariants.{InvalidRequest, InvalidScope, UnsupportedResponseType, AccessDenied}
 use Rattle.protocol.specs.declared.Refusal.TheVariants.{Unfit, ErrorPage, Redirect, Token, Failed}
 use Rattle.protocol.specs.declared.PageCause.TheVariants.{Query as bad_query, Client as bad_client, RedirectUri as bad_redirect}
-use Rattle.protocol.specs.declared.Decision.{Decision}
-use Rattle.protocol.specs.declared.Decision.TheVariants.{Grant, Refuse}
-use Rattle.protocol.specs.Answers.{word_text}
+use Rattle.protocol.specs.Answers.{word_text, Decision}
 use Rattle.protocol.specs.declared.CodeRequest.{CodeRequest}
 use Rattle.protocol.specs.declared.Request.TheVariants.{Code}
 use Rattle.protocol.specs.declared.Reading.{Reading}
 use Rattle.protocol.specs.Limits.{most_form, most_state}
 use Rattle.protocol.specs.Refusals.{Reason, when, first_of}
-use Rattle.protocol.specs.Requests.{scope_asked, fits, scope_given, no_farm, no_handle, no_challenge, unless_refused}
+use Rattle.protocol.specs.Requests.{scope_asked, fits, scope_given, no_farm, unless_refused}
 
 -- ---- reading the query
 
@@ -57,10 +54,10 @@ is_bad_state (once state) = not (is_sound_state state)
 is_bad_state repeated = true
 
 -- the challenge that is given: "43 base64url characters with zero spare bits". One that is missing or repeated is none
-unfoldable pub challenge_given : Value → DigestText
-challenge_given missing = no_challenge
+unfoldable pub challenge_given : Value → Option (List ℕ)
+challenge_given missing = None
 challenge_given (once text) = read_digest text
-challenge_given repeated = no_challenge
+challenge_given repeated = None
 
 -- "A challenge with another or no method, or a method without challenge, or a challenge that isn't 43 base64url characters with
 -- zero spare bits"; "Public clients must send one"; "Repeats are refused as for scope.": a repeated challenge is none that is
@@ -68,7 +65,7 @@ challenge_given repeated = no_challenge
 unfoldable pub is_bad_challenge : Client → Value → Value → Bool
 is_bad_challenge client challenge method =
     cond (is_missing challenge) (not (is_missing method) || not client.confidential)
-    (not (is_once (bytes "S256") method) || not (challenge_given challenge).valid)
+    (not (is_once (bytes "S256") method) || is_none (challenge_given challenge))
 
 -- "`invalid_request` (response_type missing; response_type, scope or state repeated; state over 200 bytes or outside 20-7E)", and
 -- the faults of a challenge likewise
@@ -125,7 +122,7 @@ redirect_reasons client query decision farm =
 abbrev pub code_reading : List Client → List ℕ → ℕ → Reading
 code_reading clients query farm = record {
   request = Code (code_asked clients query farm);
-  presented = no_handle;
+  presented = None;
   challenge = challenge_given (form_value query (bytes "code_challenge"));
 }
 
@@ -158,9 +155,9 @@ error_parameter word = bytes "error=" ++ word_text word
 
 -- what is written for a decision: "5 to 7 write no output"
 unfoldable pub location_text : List ℕ → Value → List ℕ → Decision → List ℕ
-location_text redirect state handle Grant = location redirect (code_parameter handle) state
-location_text redirect state handle (Refuse (Unfit i)) = []
-location_text redirect state handle (Refuse (ErrorPage p)) = []
-location_text redirect state handle (Refuse (Redirect word)) = location redirect (error_parameter word) state
-location_text redirect state handle (Refuse (Token word)) = []
-location_text redirect state handle (Refuse (Failed f)) = []
+location_text redirect state handle (Ok tt) = location redirect (code_parameter handle) state
+location_text redirect state handle (Err (Unfit i)) = []
+location_text redirect state handle (Err (ErrorPage p)) = []
+location_text redirect state handle (Err (Redirect word)) = location redirect (error_parameter word) state
+location_text redirect state handle (Err (Token word)) = []
+location_text redirect state handle (Err (Failed f)) = []

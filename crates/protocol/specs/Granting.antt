@@ -1,13 +1,12 @@
 -- Granting: what the store grants to a request, and what that leaves in its slots: one plan for each request.
 --
 -- `t` is the call's time T, the larger of the clock and the store's time. `random` is the call's random bytes.
-use Rattle.std.specs.Prelude.{ℕ, ◌+◌, ◌-◌, Bool, true, false, cond, not, ◌&&◌, ◌||◌, List, [], ◌∷◌, ◌++◌, leb, eqb, take, drop}
+use Rattle.std.specs.Prelude.{ℕ, ◌+◌, ◌-◌, Bool, true, false, cond, not, ◌&&◌, ◌||◌, List, [], ◌∷◌, ◌++◌, leb, eqb, take, drop, Option, is_some, unwrap_or, Ok, Err}
 use Rattle.octets.specs.Lists.{same}
-use Rattle.encoding.specs.declared.DigestText.{DigestText}
-use Rattle.encoding.specs.declared.HandleText.{HandleText}
+use Rattle.encoding.specs.Hex.{presents}
 use Rattle.token_store.specs.Layout.{handle_size}
-use Rattle.octets.specs.Search.{count, any, first_or, replace_first}
-use Rattle.token_store.specs.Store.{kind_access, kind_refresh, code_kind, is_bound_code, is_challenged, is_live, is_vacant, holds, sought_key, link_to, origin_of, free_slot, spent_code, without_tokens, lifetime_of, issue}
+use Rattle.octets.specs.Search.{count, any, first_or, replace_first, replace_all}
+use Rattle.token_store.specs.Store.{kind_access, kind_refresh, code_kind, is_bound_code, is_challenged, is_live, is_vacant, holds, sought_key, is_sought, no_link, link_to, origin_of, free_slot, spent_code, without_tokens, lifetime_of, issue}
 use Rattle.token_store.specs.declared.Slot.{Slot}
 use Rattle.token_store.specs.declared.Sought.{Sought}
 use Rattle.token_store.specs.declared.Sought.TheVariants.{Code as sought_code, Spent as sought_spent, Access as sought_access, Refresh as sought_refresh, Token as sought_token}
@@ -15,8 +14,7 @@ use Rattle.protocol.specs.declared.ErrorWord.TheVariants.{InvalidGrant, InvalidS
 use Rattle.protocol.specs.declared.Refusal.{Refusal}
 use Rattle.protocol.specs.declared.Refusal.TheVariants.{Redirect, Token, Failed}
 use Rattle.protocol.specs.declared.Failure.TheVariants.{NoRoom, Clash}
-use Rattle.protocol.specs.declared.Decision.{Decision}
-use Rattle.protocol.specs.declared.Decision.TheVariants.{Grant, Refuse}
+use Rattle.protocol.specs.Answers.{Decision}
 use Rattle.protocol.specs.declared.CodeRequest.{CodeRequest}
 use Rattle.protocol.specs.declared.ExchangeRequest.{ExchangeRequest}
 use Rattle.protocol.specs.declared.RefreshRequest.{RefreshRequest}
@@ -41,11 +39,11 @@ abbrev pub second_handle : List ℕ → List ℕ
 second_handle random = take handle_size (drop handle_size random)
 
 -- "A look-up takes the lowest slot of the right kind and handle"; a free slot where there is none, which is never live
-abbrev pub shown_slot : Sought → HandleText → List Slot → Slot
+abbrev pub shown_slot : Sought → Option (List ℕ) → List Slot → Slot
 shown_slot sought presented slots = first_or free_slot (sought_key sought presented) slots
 
 -- "Keep an exchanged code as kind 5, spent, until its old expiry."
-abbrev pub with_spent : HandleText → List Slot → List Slot
+abbrev pub with_spent : Option (List ℕ) → List Slot → List Slot
 with_spent presented slots =
     replace_first (sought_key sought_code presented) (spent_code (shown_slot sought_code presented slots)) slots
 
@@ -66,36 +64,44 @@ abbrev pub is_own : ℕ → ℕ → Slot → Bool
 is_own t client s = is_live t s && eqb s.client client
 
 -- "An exchange whose verifier is missing, malformed .. or of another digest"; "a verifier for a code without challenge .. is ignored"
-abbrev pub is_unverified : DigestText → Slot → Bool
-is_unverified answered code = is_challenged code && not (answered.valid && same answered.bytes code.link)
+abbrev pub is_unverified : Option (List ℕ) → Slot → Bool
+is_unverified answered code = is_challenged code && not (presents answered code.link)
 
 -- "the same client, authenticated, presents a live spent code (sought only where no unspent code has its handle)": of the
 -- spent codes with its handle the lowest counts
-abbrev pub is_shown_again : ℕ → ℕ → HandleText → List Slot → Bool
+abbrev pub is_shown_again : ℕ → ℕ → Option (List ℕ) → List Slot → Bool
 is_shown_again t client presented slots =
     not (any (sought_key sought_code presented) slots) && is_own t client (shown_slot sought_spent presented slots)
 
+-- a token that came from the code presented
+abbrev pub is_issued_on : Option (List ℕ) → Slot → Bool
+is_issued_on presented s = is_sought sought_token s && presents presented (origin_of s)
+
+-- the slots without the tokens that came from the code presented
+abbrev pub without_issued_on : Option (List ℕ) → List Slot → List Slot
+without_issued_on presented slots = replace_all free_slot (is_issued_on presented) slots
+
 -- what an exchange that is refused leaves: "every token with that origin is cleared", where a code is shown again
-abbrev pub refused_slots : ℕ → ℕ → HandleText → List Slot → List Slot
-refused_slots t client presented slots = cond (is_shown_again t client presented slots) (without_tokens sought_token presented.bytes slots) slots
+abbrev pub refused_slots : ℕ → ℕ → Option (List ℕ) → List Slot → List Slot
+refused_slots t client presented slots = cond (is_shown_again t client presented slots) (without_issued_on presented slots) slots
 
 -- the slots without the token presented: "an access token is cleared, or a refresh token together with all access tokens of its
 -- origin"
-abbrev pub without_shown : HandleText → List Slot → List Slot
+abbrev pub without_shown : Option (List ℕ) → List Slot → List Slot
 without_shown presented slots =
     let token = shown_slot sought_token presented slots in
     let others = replace_first (sought_key sought_token presented) free_slot slots in
     cond (eqb token.kind kind_refresh) (without_tokens sought_access (origin_of token) others) others
 
 -- what a revocation that is not refused leaves: "An unknown or run-out token (kinds 3 and 4 looked up together)" changes nothing
-abbrev pub revoked_slots : ℕ → HandleText → List Slot → List Slot
+abbrev pub revoked_slots : ℕ → Option (List ℕ) → List Slot → List Slot
 revoked_slots t presented slots = cond (is_live t (shown_slot sought_token presented slots)) (without_shown presented slots) slots
 
 -- "A code holds its client, the farm the owner allowed and the scope granted"; "Expiry is T plus 600 (code) .."; "Codes with a
 -- challenge are kinds 6 and 7 (without and with bound redirect) and hold its 32 bytes", which are zero where there is none
-abbrev pub new_code : ℕ → List ℕ → DigestText → CodeRequest → Slot
+abbrev pub new_code : ℕ → List ℕ → Option (List ℕ) → CodeRequest → Slot
 new_code t handle challenge r =
-    let kind = code_kind r.bound challenge.valid in
+    let kind = code_kind r.bound (is_some challenge) in
     record {
       kind = kind;
       handle = handle;
@@ -103,7 +109,7 @@ new_code t handle challenge r =
       farm = r.farm;
       scope = r.scope;
       expiry = t + lifetime_of kind;
-      link = challenge.bytes;
+      link = unwrap_or challenge no_link;
     }
 
 -- "a token takes client and farm, and its scope unless a refresh asks for less, from the code or refresh token that it
@@ -175,7 +181,7 @@ module _ (t : ℕ) (slots : List Slot) (random : List ℕ) where
   refused_plan refusal = record { reasons = when true refusal ∷ []; granted = slots; denied = slots; scope = 0; brings_refresh = false }
 
   -- "`temporarily_unavailable` (no slot), `server_error` (random bytes equal to the handle of any slot in use, run out or not)"
-  unfoldable pub code_plan : DigestText → CodeRequest → Plan
+  unfoldable pub code_plan : Option (List ℕ) → CodeRequest → Plan
   code_plan challenge r =
       single_plan t slots (Redirect TemporarilyUnavailable) (Redirect ServerError) (new_code t (first_handle random) challenge r)
 
@@ -185,7 +191,7 @@ module _ (t : ℕ) (slots : List Slot) (random : List ℕ) where
   -- any slot in use, or two to be issued are equal." An exchange keeps its code as spent, then "issues access (first 20
   -- random bytes) and refresh (last 20)"; "an exchange's own slot is no longer free for 503". Of a code shown again "the answer is
   -- still `invalid_grant`, redirect not looked at, and every token with that origin is cleared": it is not found among the unspent
-  unfoldable pub exchange_plan : HandleText → DigestText → ExchangeRequest → Plan
+  unfoldable pub exchange_plan : Option (List ℕ) → Option (List ℕ) → ExchangeRequest → Plan
   exchange_plan presented answered r =
       let code = shown_slot sought_code presented slots in
       let access = token_on code code.handle t kind_access (first_handle random) code.scope in
@@ -207,7 +213,7 @@ module _ (t : ℕ) (slots : List Slot) (random : List ℕ) where
   -- "`invalid_grant` (not found, run out, other client) .. `invalid_scope` (refresh: bad form, unknown name, or beyond the
   -- granted set)". "A refresh issues one access token with the asked scope, or the granted one; the refresh token stays". The access
   -- token came from the code that the refresh token came from
-  unfoldable pub refresh_plan : HandleText → RefreshRequest → Plan
+  unfoldable pub refresh_plan : Option (List ℕ) → RefreshRequest → Plan
   refresh_plan presented r =
       let token = shown_slot sought_refresh presented slots in
       after_reasons
@@ -219,7 +225,7 @@ module _ (t : ℕ) (slots : List Slot) (random : List ℕ) where
   credentials_plan r = access_plan t slots (client_token t (first_handle random) r)
 
   -- "a live token of another client is `invalid_grant`"
-  unfoldable pub revocation_plan : HandleText → RevocationRequest → Plan
+  unfoldable pub revocation_plan : Option (List ℕ) → RevocationRequest → Plan
   revocation_plan presented r =
       let token = shown_slot sought_token presented slots in
       record {
@@ -230,7 +236,7 @@ module _ (t : ℕ) (slots : List Slot) (random : List ℕ) where
         brings_refresh = false;
       }
 
-  unfoldable pub plan_for : HandleText → DigestText → Request → Plan
+  unfoldable pub plan_for : Option (List ℕ) → Option (List ℕ) → Request → Plan
   plan_for presented challenge (Refused refusal) = refused_plan refusal
   plan_for presented challenge (Code r) = code_plan challenge r
   plan_for presented challenge (Exchange r) = exchange_plan presented challenge r
@@ -248,8 +254,8 @@ abbrev pub decision_on : Plan → Decision
 decision_on plan = first_of plan.reasons
 
 unfoldable pub slots_by : Decision → Plan → List Slot
-slots_by Grant plan = plan.granted
-slots_by (Refuse refusal) plan = plan.denied
+slots_by (Ok tt) plan = plan.granted
+slots_by (Err refusal) plan = plan.denied
 
 abbrev pub slots_after : Plan → List Slot
 slots_after plan = slots_by (decision_on plan) plan
@@ -260,6 +266,6 @@ slots_after plan = slots_by (decision_on plan) plan
 abbrev pub live_token : ℕ → Slot → LiveToken
 live_token t s = record { client = s.client; farm = s.farm; scope = s.scope; left = s.expiry - t }
 
-unfoldable pub check_slots : ℕ → List Slot → HandleText → CheckAnswer
+unfoldable pub check_slots : ℕ → List Slot → Option (List ℕ) → CheckAnswer
 check_slots t slots presented =
     let s = shown_slot sought_access presented slots in cond (is_live t s) (Live (live_token t s)) NotLive

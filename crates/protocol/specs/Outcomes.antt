@@ -1,7 +1,7 @@
 -- The whole outcome of each endpoint, from raw bytes and numbers: the answer, the output after, the store after.
 --
 -- Every function here is total: it says what happens for every input, fit or not.
-use Rattle.std.specs.Prelude.{ℕ, Bool, false, cond, not, ◌||◌, List, [], ◌∷◌, ltb, eqb, length}
+use Rattle.std.specs.Prelude.{ℕ, Bool, false, cond, not, ◌||◌, List, [], ◌∷◌, ltb, eqb, length, Ok, Err}
 use Rattle.std.proofs.lemmas.List.Edits.{sets}
 use Rattle.octets.specs.Text.{bytes}
 use Rattle.encoding.specs.Hex.{read_handle}
@@ -15,14 +15,12 @@ use Rattle.token_store.specs.declared.Slot.{Slot}
 use Rattle.protocol.specs.declared.Refusal.{Refusal}
 use Rattle.protocol.specs.declared.Refusal.TheVariants.{Unfit}
 use Rattle.protocol.specs.declared.Input.TheVariants.{Buffers, Registry, Store, Clock}
-use Rattle.protocol.specs.declared.Decision.{Decision}
-use Rattle.protocol.specs.declared.Decision.TheVariants.{Grant, Refuse}
 use Rattle.protocol.specs.declared.AuthorizationAnswer.{AuthorizationAnswer}
 use Rattle.protocol.specs.declared.TokenAnswer.{TokenAnswer}
 use Rattle.protocol.specs.declared.CheckAnswer.{CheckAnswer}
 use Rattle.protocol.specs.declared.CheckAnswer.TheVariants.{Refused}
 use Rattle.protocol.specs.Limits.{least_output, code_random, token_random}
-use Rattle.protocol.specs.Answers.{status_of}
+use Rattle.protocol.specs.Answers.{status_of, Decision}
 use Rattle.protocol.specs.Refusals.{Reason, when, first_of}
 use Rattle.protocol.specs.Authorization.{query_client, read_authorization, location_text}
 use Rattle.protocol.specs.Token.{read_token, refusal_reply, token_reply, refresh_member, challenges}
@@ -70,7 +68,7 @@ admit buffers_unfit registry store clock = first_of (unfit_reasons buffers_unfit
 module _ {Answer : Type 0} (endpoint : Endpoint Answer) (registry store : List ℕ) (handed : Handed) where
   -- "Every call past refusals 1 to 4, whatever it answers, stores T as mark."; "1 to 4 change no byte"
   unfoldable pub outcome_by : Decision → Outcome Answer
-  outcome_by Grant =
+  outcome_by (Ok tt) =
       let st = decode store in
       let t = call_time st handed.clock in
       let served = endpoint.serve (clients_of registry) t st.slots handed.random in
@@ -79,7 +77,7 @@ module _ {Answer : Type 0} (endpoint : Endpoint Answer) (registry store : List �
         output = sets handed.output 0 served.text;
         store = encode (record { time = t; slots = served.slots });
       }
-  outcome_by (Refuse refusal) = record { answer = endpoint.refuse refusal; output = handed.output; store = store }
+  outcome_by (Err refusal) = record { answer = endpoint.refuse refusal; output = handed.output; store = store }
 
   unfoldable pub outcome : Outcome Answer
   outcome = outcome_by (admit (endpoint.unfit handed) registry store handed.clock)
@@ -103,7 +101,7 @@ serve_authorization query decision farm clients t slots random =
 abbrev pub authorization_endpoint : List ℕ → ℕ → ℕ → Endpoint AuthorizationAnswer
 authorization_endpoint query decision farm = record {
   unfit = λ handed. unfit_buffers code_random handed.random handed.output;
-  refuse = λ refusal. record { decision = Refuse refusal; length = 0 };
+  refuse = λ refusal. record { decision = Err refusal; length = 0 };
   serve = serve_authorization query decision farm;
 }
 
@@ -117,7 +115,7 @@ abbrev pub answer_to : List ℕ → Decision → ℕ → TokenAnswer
 answer_to header decided long = record { decision = decided; challenge = challenges (status_of decided) header; length = long }
 
 abbrev pub unfit_reply : Refusal → TokenAnswer
-unfit_reply refusal = record { decision = Refuse refusal; challenge = false; length = 0 }
+unfit_reply refusal = record { decision = Err refusal; challenge = false; length = 0 }
 
 -- what such a call comes to by its plan, with the reply's text
 abbrev pub served_by : List ℕ → Plan → List ℕ → Served TokenAnswer
@@ -127,9 +125,9 @@ served_by header plan text = record { answer = answer_to header (decision_on pla
 
 -- the reply to a decision on a plan: "the refresh token stays, and the reply has no refresh_token"
 unfoldable pub reply_text : List ℕ → Plan → Decision → List ℕ
-reply_text random plan Grant =
+reply_text random plan (Ok tt) =
     token_reply (first_handle random) (cond plan.brings_refresh (refresh_member (second_handle random)) []) plan.scope
-reply_text random plan (Refuse refusal) = refusal_reply refusal
+reply_text random plan (Err refusal) = refusal_reply refusal
 
 unfoldable pub serve_token : List ℕ → List ℕ → List Client → ℕ → List Slot → List ℕ → Served TokenAnswer
 serve_token header body clients t slots random =

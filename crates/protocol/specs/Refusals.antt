@@ -1,8 +1,7 @@
 -- Reasons to refuse, in the order in which they count: the refusals that reading, admitting and granting are made of.
-use Rattle.std.specs.Prelude.{Bool, cond, List, [], ◌∷◌}
+use Rattle.std.specs.Prelude.{Bool, cond, List, [], ◌∷◌, Ok, Err}
 use Rattle.protocol.specs.declared.Refusal.{Refusal}
-use Rattle.protocol.specs.declared.Decision.{Decision}
-use Rattle.protocol.specs.declared.Decision.TheVariants.{Grant, Refuse}
+use Rattle.protocol.specs.Answers.{Decision}
 
 -- a refusal, and whether it applies
 pub record Reason : Type 0 where
@@ -14,5 +13,5 @@ when applies refusal = record { applies = applies; refusal = refusal }
 
 -- "The first that applies counts."
 unfoldable pub first_of : List Reason → Decision
-first_of [] = Grant
-first_of (r ∷ rs) = cond r.applies (Refuse r.refusal) (first_of rs)
+first_of [] = Ok tt
+first_of (r ∷ rs) = cond r.applies (Err r.refusal) (first_of rs)

@@ -1,17 +1,12 @@
 -- What a call comes to once its arguments are read, before the store is looked at: the scope it asks for, and a request or
 -- the refusal that comes before it. The types of requests are those of src/lib.rt.
-use Rattle.std.specs.Prelude.{ℕ, Bool, true, false, replicate}
-use Rattle.encoding.specs.declared.DigestText.{DigestText}
-use Rattle.encoding.specs.declared.HandleText.{HandleText}
+use Rattle.std.specs.Prelude.{ℕ, Bool, true, false, Option, Some, None, Ok, Err}
 use Rattle.form.specs.Content.{Value, missing, once, repeated}
 use Rattle.scope.specs.Set.{is_within, of_byte}
 use Rattle.scope.specs.Value.{read_scope}
-use Rattle.scope.specs.declared.ScopeValue.{ScopeValue}
-use Rattle.scope.specs.declared.ScopeValue.TheVariants.{Names, Invalid}
-use Rattle.token_store.specs.Layout.{handle_size, link_size}
+use Rattle.scope.specs.declared.Scope.{Scope}
 use Rattle.protocol.specs.declared.Refusal.{Refusal}
-use Rattle.protocol.specs.declared.Decision.{Decision}
-use Rattle.protocol.specs.declared.Decision.TheVariants.{Grant, Refuse}
+use Rattle.protocol.specs.Answers.{Decision}
 use Rattle.protocol.specs.declared.ScopeAsked.{ScopeAsked}
 use Rattle.protocol.specs.declared.ScopeAsked.TheVariants.{Everything, Only, Unreadable}
 use Rattle.protocol.specs.declared.Request.{Request}
@@ -20,9 +15,9 @@ use Rattle.protocol.specs.declared.Reading.{Reading}
 
 -- ---- the scope asked for
 
-unfoldable pub asked_by : ScopeValue → ScopeAsked
-asked_by (Names s) = Only s.bits
-asked_by Invalid = Unreadable
+unfoldable pub asked_by : Option Scope → ScopeAsked
+asked_by (Some s) = Only s.bits
+asked_by None = Unreadable
 
 unfoldable pub scope_asked : Value → ScopeAsked
 scope_asked missing = Everything
@@ -49,21 +44,13 @@ no_farm = 0
 
 -- ---- readings
 
--- a text that is no handle: what a call presents that presents none
-abbrev pub no_handle : HandleText
-no_handle = record { valid = false; bytes = replicate handle_size 0 }
-
--- a text that is no digest: the challenge of a call that has none
-abbrev pub no_challenge : DigestText
-no_challenge = record { valid = false; bytes = replicate link_size 0 }
-
 abbrev pub presenting_none : Request → Reading
-presenting_none request = record { request = request; presented = no_handle; challenge = no_challenge }
+presenting_none request = record { request = request; presented = None; challenge = None }
 
 abbrev pub refused_reading : Refusal → Reading
 refused_reading refusal = presenting_none (Refused refusal)
 
 -- what is read, unless a reason to refuse it came first
 unfoldable pub unless_refused : Decision → Reading → Reading
-unless_refused Grant reading = reading
-unless_refused (Refuse refusal) reading = refused_reading refusal
+unless_refused (Ok tt) reading = reading
+unless_refused (Err refusal) reading = refused_reading refusal

@@ -1,15 +1,14 @@
 -- The revocation endpoint: how the body of an authenticated client is read, and the replies (RFC 7009, section 2).
-use Rattle.std.specs.Prelude.{ℕ, List, [], ◌∷◌}
+use Rattle.std.specs.Prelude.{ℕ, List, [], ◌∷◌, None, Ok, Err}
 use Rattle.octets.specs.Text.{bytes}
 use Rattle.encoding.specs.Hex.{read_handle}
 use Rattle.form.specs.Content.{form_value, only_value}
 use Rattle.client_registry.specs.Registry.{Client}
-use Rattle.protocol.specs.declared.Decision.{Decision}
-use Rattle.protocol.specs.declared.Decision.TheVariants.{Grant, Refuse}
+use Rattle.protocol.specs.Answers.{Decision}
 use Rattle.protocol.specs.declared.Request.TheVariants.{Revocation}
 use Rattle.protocol.specs.declared.Reading.{Reading}
 use Rattle.protocol.specs.Refusals.{first_of}
-use Rattle.protocol.specs.Requests.{no_challenge, unless_refused}
+use Rattle.protocol.specs.Requests.{unless_refused}
 use Rattle.protocol.specs.ClientForms.{call_client, form_reasons}
 use Rattle.protocol.specs.Token.{refusal_reply}
 
@@ -27,11 +26,11 @@ read_revocation clients header body =
     (record {
       request = Revocation (record { client = call_client clients header body });
       presented = read_handle (only_value (form_value body (bytes "token")));
-      challenge = no_challenge;
+      challenge = None;
     })
 
 -- ---- the replies: "status 200, empty"
 
 unfoldable pub revocation_reply : Decision → List ℕ
-revocation_reply Grant = []
-revocation_reply (Refuse refusal) = refusal_reply refusal
+revocation_reply (Ok tt) = []
+revocation_reply (Err refusal) = refusal_reply refusal

@@ -4,7 +4,7 @@
 // in the token store, for every input. The endpoints' crates are proved against them.
 #![tactic(auto)]
 
-use encoding::{DigestText, HandleText};
+use encoding::{Digest, Handle};
 
 pub mod limits;
 
@@ -93,6 +93,7 @@ pub struct RefreshRequest {
 }
 
 // The farm of a token that a client has for itself: no owner allowed it, and none may.
+// A number and no Option: a slot's bytes and the reply over C carry farm 0.
 pub const NO_FARM: u32 = 0;
 
 // An access token for the client itself, on its credentials alone.
@@ -119,24 +120,19 @@ pub enum Request {
     Revocation(RevocationRequest),
 }
 
-// A call as it was read: its request; the code or token that it presents; and the code challenge (RFC 7636) that a
-// code is asked for with, or that an exchange answers by its verifier. A request that presents no code or token has a text
-// that is no handle, and one without a challenge a text that is no digest.
+// A call as it was read: its request; the handle of the code or token that it presents, if it is one; and the code challenge
+// (RFC 7636), if there is one, that a code is asked for with, or that an exchange answers by its verifier.
 #[derive(Clone, Copy)]
 pub struct Reading {
     pub request: Request,
-    pub presented: HandleText,
-    pub challenge: DigestText,
+    pub presented: Option<Handle>,
+    pub challenge: Option<Digest>,
 }
 
 // ---- answers
 
 // Whether a call was granted: a code at the authorization endpoint, tokens at the token endpoint; or a revocation done.
-#[derive(Clone, Copy)]
-pub enum Decision {
-    Grant,
-    Refuse(Refusal),
-}
+pub type Decision = Result<(), Refusal>;
 
 // What the authorization endpoint answers: the decision, and how many bytes of location it wrote.
 #[derive(Clone, Copy)]

@@ -13,17 +13,17 @@ ghost use Rattle.protocol.specs.Revocation.{revocation_reply};
 ghost use Rattle.protocol.specs.Outcomes.{serve_revocation, revocation_outcome};
 ghost use Rattle.admission.specs.Entering.{Ready, Serves};
 
-use admission::Admission;
 use protocol::{Decision, TokenAnswer};
 
 // Writes the reply to a decision, and gives its length.
+#[tactic(auto, unfolding(protocol::specs::Revocation::revocation_reply))]
 fn write_reply(output: &mut [u8], decision: Decision) -> usize
     requires { least_output ≤ length output.old }
     ensures { Appended output.old 0 (revocation_reply decision) output.new result }
 {
     match decision {
-        Decision::Refuse(refusal) => token_reply::write_refusal(output, refusal),
-        Decision::Grant => 0,
+        Ok(()) => 0,
+        Err(refusal) => token_reply::write_refusal(output, refusal),
     }
 }
 
@@ -43,8 +43,8 @@ fn serve(
         (decode store.old) (decode store.new) output.old output.new result }
 {
     let reading = revocation_request::read(registry, header, body);
-    let granted = granting::grant(store, t, b"", reading);
-    let decision = granted.decision;
+    let time = granting::Time { seconds: t };
+    let decision = granting::grant(store.as_mut_array().unwrap(), time, b"", reading).map(|_| ());
     let length = write_reply(output, decision);
     token_reply::answer(decision, header, length)
 }
@@ -64,7 +64,7 @@ pub fn revoke(
 {
     let unfit = admission::unfit_output(output);
     match admission::enter(unfit, registry, store, clock) {
-        Admission::Refused(refusal) => token_reply::unfit(refusal),
-        Admission::At(t) => serve(header, body, registry, store, t, output),
+        Ok(t) => serve(header, body, registry, store, t, output),
+        Err(refusal) => token_reply::unfit(refusal),
     }
 }

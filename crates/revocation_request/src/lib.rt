@@ -8,7 +8,8 @@ ghost use Rattle.std.specs.Prelude.{◌≡◌, true};
 ghost use Rattle.client_registry.specs.Registry.{clients_of, fit_registry};
 ghost use Rattle.protocol.specs.Revocation.{read_revocation};
 
-use client_forms::{Caller, NEEDED, presenting, refuse};
+use client_forms::{NEEDED, presenting, refuse};
+use parameters::Field;
 use protocol::{Reading, Request, RevocationRequest};
 
 // Where the token stands, in the order in which `read` lists the names. It must be there.
@@ -19,25 +20,17 @@ pub fn read(registry: &[u8], header: &[u8], body: &[u8]) -> Reading
     requires { fit_registry registry.now ≡ true }
     ensures { result ≡ read_revocation (clients_of registry.now) header.now body.now }
 {
-    let form = client_forms::read(
-        registry,
-        header,
-        body,
-        b"client_id&client_secret&token&token_type_hint",
-    );
-    let caller = form.caller;
-    let places = form.places;
-    match caller {
-        Caller::Client(client) => {
-            let token = places[TOKEN];
-            let presented = parameters::handle_presented(body, token);
-            presenting(
-                Request::Revocation(RevocationRequest {
-                    client: client.number,
-                }),
-                presented,
-            )
-        }
-        Caller::Refused(word) => refuse(word),
+    let names = b"client_id&client_secret&token&token_type_hint";
+    match client_forms::read(registry, header, body, names) {
+        Ok(form) => presenting(
+            Request::Revocation(RevocationRequest {
+                client: form.client.number,
+            }),
+            parameters::handle_presented(&Field {
+                form: body,
+                place: form.places[TOKEN],
+            }),
+        ),
+        Err(word) => refuse(word),
     }
 }

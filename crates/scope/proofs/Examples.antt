@@ -7,22 +7,22 @@ use mathlib.Core.List.{List, [], ◌∷◌, map}
 use Rattle.octets.specs.Lists.{every, same, split_on, grow}
 use Rattle.octets.specs.Text.{bytes}
 use Rattle.scope.specs.Set.{names, of_byte}
+use Rattle.scope.specs.declared.Scope.{Scope}
 use Rattle.scope.specs.Value.{bit_from, bit_of, union, read_scope, chosen, spaced, scope_text}
-use Rattle.scope.specs.declared.ScopeValue.{ScopeValue}
-use Rattle.scope.specs.declared.ScopeValue.TheVariants.{Names, Invalid}
+use Rattle.std.specs.Prelude.{Option, Some, None}
 
 -- texts, and what each says
-abbrev cases : List (List ℕ × ScopeValue)
+abbrev cases : List (List ℕ × Option Scope)
 cases =
-    (bytes "bill power", Names (of_byte 9))
-    ∷ (bytes "power bill power", Names (of_byte 9))
-    ∷ (bytes "power  bill", Invalid)
-    ∷ (bytes " power", Invalid)
-    ∷ (bytes "power ", Invalid)
-    ∷ (bytes "Power", Invalid)
-    ∷ (bytes "pow", Invalid)
-    ∷ (bytes "powers", Invalid)
-    ∷ (bytes "", Invalid)
+    (bytes "bill power", Some (of_byte 9))
+    ∷ (bytes "power bill power", Some (of_byte 9))
+    ∷ (bytes "power  bill", None)
+    ∷ (bytes " power", None)
+    ∷ (bytes "power ", None)
+    ∷ (bytes "Power", None)
+    ∷ (bytes "pow", None)
+    ∷ (bytes "powers", None)
+    ∷ (bytes "", None)
     ∷ []
 
 pub read-cases : map (λ c. read_scope c.0) cases ≡ map (λ c. c.1) cases

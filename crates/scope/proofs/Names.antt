@@ -1,28 +1,26 @@
 -- Laws of the table of names, and of the number of a text that may be one of them.
 --
--- In order: what holds of each name holds of a text that is one; the number of a text, as a set; the loop over the
--- table; a row of the table as the code has it.
+-- In order: what holds of each name holds of a text that is one; the number of a text, as a set; the place of a text
+-- in the table.
 --
 -- Not here: several names (`Value`); sets alone (`Set`).
 -- Assumes nothing.
-use Prim.Native.Nat.{ℕ, ◌+◌, ◌*◌, ◌^◌, ◌≤◌, ◌<◌}
+use Prim.Native.Nat.{ℕ, ◌*◌, ◌^◌, ◌<◌}
 use mathlib.Core.Path.{◌≡◌, refl, sym, ◌∙◌, ap}
 use mathlib.Core.Bool.{Bool, true, false, beq, false≢true}
 use mathlib.Core.List.{List, [], ◌∷◌}
-use native.Mathlib.Nat.{pow-suc}
-use native.Mathlib.Numerals.{add-one}
 use native.Mathlib.Omega.{arith}
+use Rattle.std.specs.Prelude.{Some, None, is_some, position}
+use Rattle.std.proofs.lemmas.List.Quantifiers.{position-Some}
 use borrow.Author.Tests.{eqb-true, eqb-false, not-true, not-false, ltb-true}
 use lib.Dec.{eqb, ltb}
-use lib.ListN.{length, take, drop, drop_of_length-le}
-use lib.Seq.{drop-cons}
+use lib.ListN.{length}
 use Rattle.octets.specs.Lists.{every, same}
-use Rattle.octets.proofs.Booleans.{by-test, and_left, and_right, to-T, of-T-equal}
-use Rattle.octets.proofs.Lists.{same-eq, every-at, padded-room, padded-text}
+use Rattle.octets.proofs.Booleans.{by-test, and_left, and_right, to-T, of_T, of-T-equal}
+use Rattle.octets.proofs.Lists.{same-eq, every-at}
 use Rattle.octets.proofs.Table.{every_from, at}
-use Rattle.scope.specs.Set.{names, name_at, has}
-use Rattle.scope.specs.Value.{bit_from, bit_of, is_name, row_of}
-use Rattle.scope.specs.declared.Name.{Name}
+use Rattle.scope.specs.Set.{names, name_at, has, of_byte}
+use Rattle.scope.specs.Value.{bit_from, bit_of, is_name, set_named}
 use Rattle.scope.proofs.Set.{has-empty}
 
 -- ---- what holds of each name holds of a text that is one
@@ -83,28 +81,30 @@ has-bit n k h = by-test (is_name n) one none
         by-test (same n (name_at k)) (λ d. absurd (false≢true (sym e ∙ ap is_name (same-eq n (name_at k) d) ∙ name-known k h)))
         (λ d. ap (λ (b : ℕ). has b k) (no_name n e) ∙ has-empty k ∙ sym d)
 
--- ---- the loop over the table: what is left of it gives the number
+-- ---- where a text stands in the table gives the set of the one name that it is
 
-module _ (n : List ℕ) (k : ℕ) (h : k < 8) where
-  pub bit-here : same n (name_at k) ≡ true → bit_from (2 ^ k) n (drop k names) ≡ 2 ^ k
-  unfolding bit_from names
-  bit-here e = rw (drop-cons names k [] h, e)
+-- name k of the table has the number 2 ^ k, and stands there
+numbers : every_from (λ k n. eqb (bit_of n) (2 ^ k)) 0 names ≡ true
+unfolding names bit_of bit_from same every
+numbers = refl
 
-  pub bit_past : same n (name_at k) ≡ false → bit_from (2 ^ k) n (drop k names) ≡ bit_from (2 ^ (k + 1)) n (drop (k + 1) names)
-  unfolding bit_from names
-  bit_past e = rw (add-one, pow-suc, drop-cons names k [] h, e)
+placed : every (λ n. is_some (position (same n) names)) names ≡ true
+unfolding names same every
+placed = refl
 
-pub bit-end : (b : ℕ) (n : List ℕ) (k : ℕ) → 8 ≤ k → bit_from b n (drop k names) ≡ 0
-unfolding bit_from names
-bit-end b n k h = rw (drop_of_length-le names h)
+pub named-at : (n : List ℕ) (k : ℕ) → position (same n) names ≡ Some k → (k < 8) × (set_named n ≡ Some (of_byte (2 ^ k)))
+unfolding set_named
+named-at n k e =
+    let found = position-Some (same n) names k [] e in
+    let h : k < 8 = omega (arith, found.0, count) in
+    let is : n ≡ name_at k = same-eq n (name_at k) found.1 in
+    let known : is_name n ≡ true = ap is_name is ∙ name-known k h in
+    let number = eqb-true (bit_of (name_at k)) (2 ^ k) (of_T _ (at (λ j m. eqb (bit_of m) (2 ^ j)) [] names (to-T numbers) k found.0)) in
+    (h, rw (known, ap bit_of is ∙ number))
 
--- ---- a row of the table as the code has it, which begins with the name
-
-module _ (n : List ℕ) {r : Name} (e : r ≡ row_of n) where
-  pub row_room : r.0 ≤ length r.1
-  unfolding row_of
-  row_room = rw e (padded-room 7 n)
-
-  pub row-text : take r.0 r.1 ≡ n
-  unfolding row_of
-  row-text = rw e (padded-text 7 n)
+pub named-none : (n : List ℕ) → position (same n) names ≡ None → set_named n ≡ None
+unfolding set_named
+named-none n e =
+    by-test (is_name n)
+    (λ t. absurd (false≢true (sym (ap is_some e) ∙ of-name (λ m. is_some (position (same m) names)) placed n t)))
+    (λ f. rw f)

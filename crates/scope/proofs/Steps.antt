@@ -5,52 +5,54 @@
 -- Not here: what was read and what is written, as a whole (`Value`); the loop over the table of names (`Names`).
 -- Assumes nothing.
 use Prim.Native.Nat.{ℕ, suc, ◌+◌, ◌≤◌, ◌<◌}
-use mathlib.Core.Path.{◌≡◌, refl, sym, ◌∙◌, ap}
-use mathlib.Core.Bool.{Bool, true, false, cond, not, ◌&&◌}
+use mathlib.Core.Path.{◌≡◌, refl, sym}
+use mathlib.Core.Bool.{Bool, true, false, cond, not, ◌&&◌, and-true}
 use mathlib.Core.List.{List, [], ◌∷◌, ◌++◌, append-nil}
 use native.Mathlib.Numerals.{add-one}
-use borrow.Author.Tests.{eq-eqb, ne_eqb}
-use lib.Bits.{or_zero_r}
-use lib.Dec.{leb-zero}
-use lib.ListN.{length, drop, drop_of_length-le}
+use lib.Bits.{bit_or, or_zero_r}
+use lib.ListN.{drop, drop_of_length-le}
 use lib.Seq.{drop-cons}
-use Rattle.octets.specs.Lists.{part, index_of, every}
-use Rattle.octets.proofs.Pieces.{remaining, remaining-step, remaining-end}
+use Rattle.std.specs.Prelude.{Option, Some, None}
+use Rattle.octets.specs.Lists.{every}
+use Rattle.octets.proofs.Booleans.{and-false}
+use Rattle.octets.proofs.Splits.{left}
 use Rattle.scope.specs.Set.{names, name_at, has, of_byte, empty_set, join}
-use Rattle.scope.specs.Value.{bit_of, is_name, union, read_scope, chosen, spaced, name_text, scope_text}
+use Rattle.scope.specs.Value.{bit_of, is_name, set_named, union, read_scope, chosen, spaced, name_text, scope_text}
 use Rattle.scope.specs.declared.Scope.{Scope}
-use Rattle.scope.specs.declared.ScopeValue.{ScopeValue}
-use Rattle.scope.specs.declared.ScopeValue.TheVariants.{Names, Invalid}
 use Rattle.scope.proofs.Set.{or_assoc}
 
 -- ---- reading, one text after the other
 
 -- what is read of the texts that are left, where s is the set of the names before them
-unfoldable pub read_from : Scope → List (List ℕ) → ScopeValue
-read_from s ns = cond (every is_name ns) (Names (join s (of_byte (union ns)))) Invalid
+unfoldable pub read_from : Scope → List (List ℕ) → Option Scope
+read_from s ns = cond (every is_name ns) (Some (join s (of_byte (union ns)))) None
 
-pub read-start : (v : List ℕ) → read_from empty_set (remaining 32 v 0) ≡ read_scope v
-unfolding read_from read_scope
-read-start v = rw leb-zero
+pub read-start : (v : List ℕ) → read_from empty_set (left 32 false v) ≡ read_scope v
+unfolding read_from read_scope left
+read-start v = refl
 
--- the text at a position, up to the next space n bytes on, has the number b
-module _ (s : Scope) (v : List ℕ) (at n b : ℕ) (h : at ≤ length v) (e : n ≡ index_of 32 (drop at v)) (f : b ≡ bit_of (part v at n)) where
-  first-left : remaining 32 v at ≡ part v at n ∷ remaining 32 v (at + n + 1)
-  first-left = rw e (remaining-step 32 v at h)
+pub read_name : (s t : Scope) (n : List ℕ) (ns : List (List ℕ)) → set_named n ≡ Some t → read_from s (n ∷ ns) ≡ read_from (join s t) ns
+unfolding read_from every union set_named
+read_name s t n ns e = by (is_name n) e
+  where
+    by : (b : Bool) → cond b (Some (of_byte (bit_of n))) None ≡ Some t
+        → cond (b && every is_name ns) (Some (join s (of_byte (bit_or (bit_of n) (union ns))))) None
+        ≡ cond (every is_name ns) (Some (join (join s t) (of_byte (union ns)))) None
+    by true e = let f : t ≡ of_byte (bit_of n) = cc in rw (f, or_assoc s.bits (bit_of n) (union ns))
+    by false e = absurd (cc)
 
-  pub read_name : (b ≡ 0 → ⊥) → read_from s (remaining 32 v at) ≡ read_from (join s (of_byte b)) (remaining 32 v (at + n + 1))
-  unfolding read_from every union
-  read_name z =
-      let ns = remaining 32 v (at + n + 1) in
-      ap (read_from s) first-left ∙ rw (← f, ne_eqb b 0 z, or_assoc s.bits b (union ns))
+pub read-other : (s : Scope) (n : List ℕ) (ns : List (List ℕ)) → set_named n ≡ None → read_from s (n ∷ ns) ≡ None
+unfolding read_from every set_named
+read-other s n ns e = by (is_name n) e
+  where
+    by : (b : Bool) → cond b (Some (of_byte (bit_of n))) None ≡ None
+        → cond (b && every is_name ns) (Some (join s (of_byte (union (n ∷ ns))))) None ≡ None
+    by true e = absurd (cc)
+    by false e = refl
 
-  pub read-other : b ≡ 0 → read_from s (remaining 32 v at) ≡ Invalid
-  unfolding read_from every
-  read-other z = ap (read_from s) first-left ∙ rw (← f, eq-eqb b 0 z)
-
-pub read-end : (s : Scope) (v : List ℕ) (at : ℕ) → length v < at → read_from s (remaining 32 v at) ≡ Names s
-unfolding read_from every union
-read-end s v at h = ap (read_from s) (remaining-end 32 v at h) ∙ rw (or_zero_r s.bits)
+pub read-end : (s : Scope) (done : Bool) → done ≡ true → (rest : List ℕ) → read_from s (left 32 done rest) ≡ Some s
+unfolding read_from every union left
+read-end s done e rest = rw (e, or_zero_r s.bits)
 
 -- ---- writing, one name after the other
 
@@ -74,7 +76,7 @@ unfolding unwritten scope_text
 text-start set = refl
 
 -- the name at place k, and the rest behind it
-pub text-step : (set k : ℕ) (first : Bool) → k < 8
+text-step : (set k : ℕ) (first : Bool) → k < 8
     → unwritten set k first ≡ name_text (has set k) first k ++ unwritten set (k + 1) (first && not (has set k))
 unfolding unwritten name_text led chosen names
 text-step set k first h = rw (add-one, drop-cons names k [] h) (by (has set k) first)
@@ -91,6 +93,14 @@ text-step set k first h = rw (add-one, drop-cons names k [] h) (by (has set k) f
     by true false = refl
     by false true = refl
     by false false = refl
+
+module _ (set k : ℕ) (first : Bool) (h : k < 8) where
+  pub text-chosen : has set k ≡ true → unwritten set k first ≡ name_text true first k ++ unwritten set (k + 1) false
+  text-chosen e = rw (e, and-false) at (text-step set k first h)
+
+  pub text-skipped : has set k ≡ false → unwritten set k first ≡ unwritten set (k + 1) first
+  unfolding name_text
+  text-skipped e = rw (e, and-true) at (text-step set k first h)
 
 pub text-end : (set k : ℕ) (first : Bool) → 8 ≤ k → unwritten set k first ≡ []
 unfolding unwritten led chosen names spaced

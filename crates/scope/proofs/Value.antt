@@ -22,21 +22,20 @@ use Rattle.octets.proofs.Table.{every_from, at}
 use Rattle.scope.specs.Set.{names, name_at, has, of_byte}
 use Rattle.scope.specs.Value.{bit_from, bit_of, is_name, is_among, union, read_scope, chosen, spaced, scope_text}
 use Rattle.scope.specs.declared.Scope.{Scope}
-use Rattle.scope.specs.declared.ScopeValue.{ScopeValue}
-use Rattle.scope.specs.declared.ScopeValue.TheVariants.{Names, Invalid}
+use Rattle.std.specs.Prelude.{Option, Some, None}
 use Rattle.scope.proofs.Set.{has_join, has-empty, same-members}
 use Rattle.scope.proofs.Names.{bit-bound, has-bit}
 
 -- ---- what was read
 
 -- a set was read of names alone, and is theirs
-pub read_told : (v : List ℕ) (s : Scope) → read_scope v ≡ Names s → (every is_name (split_on 32 v) ≡ true) × (s.bits ≡ union (split_on 32 v))
+pub read_told : (v : List ℕ) (s : Scope) → read_scope v ≡ Some s → (every is_name (split_on 32 v) ≡ true) × (s.bits ≡ union (split_on 32 v))
 unfolding read_scope
 read_told v s e =
     let ns = split_on 32 v in
     by-test (every is_name ns)
-    (λ f. let g : Names (of_byte (union ns)) ≡ Names s = rw f at e in let w : s ≡ of_byte (union ns) = cc in (f, ap (λ (x : Scope). x.bits) w))
-    (λ f. let g : Invalid ≡ Names s = rw f at e in let z : ◌≡◌ {A = ℕ} 0 1 = cc in absurd (omega arith))
+    (λ f. let g : Some (of_byte (union ns)) ≡ Some s = rw f at e in let w : s ≡ of_byte (union ns) = cc in (f, ap (λ (x : Scope). x.bits) w))
+    (λ f. let g : None ≡ Some s = rw f at e in let z : ◌≡◌ {A = ℕ} 0 1 = cc in absurd (omega arith))
 
 union-bound : (ns : List (List ℕ)) → union ns < 256
 unfolding union
@@ -51,7 +50,7 @@ union-some ts n ns f e z =
     eqb-false (bit_of n) 0 (not-true (eqb (bit_of n) 0) i) (omega (arith, or_add_and (bit_of n) (union ns), and_le_r (bit_of n) (union ns)))
 
 -- it is not empty
-pub read-bound : (v : List ℕ) (s : Scope) → read_scope v ≡ Names s → (s.bits < 256) × (s.bits ≡ 0 → ⊥)
+pub read-bound : (v : List ℕ) (s : Scope) → read_scope v ≡ Some s → (s.bits < 256) × (s.bits ≡ 0 → ⊥)
 read-bound v s e =
     let t = read_told v s e in
     (rw t.1 (union-bound (split_on 32 v)), λ z. union-some (split_on 32 v) _ _ (split-first 32 v) t.0 (sym t.1 ∙ z))
@@ -62,7 +61,7 @@ unfolding union is_among
 has-union [] k h = has-empty k
 has-union (n ∷ ns) k h = has_join (bit_of n) (union ns) k ∙ ap₂ ◌||◌ (has-bit n k h) (has-union ns k h)
 
-pub read-order : (v : List ℕ) (s : Scope) (k : ℕ) → read_scope v ≡ Names s → k < 8 → has s.bits k ≡ is_among (name_at k) (split_on 32 v)
+pub read-order : (v : List ℕ) (s : Scope) (k : ℕ) → read_scope v ≡ Some s → k < 8 → has s.bits k ≡ is_among (name_at k) (split_on 32 v)
 read-order v s k e h = ap (λ (b : ℕ). has b k) (read_told v s e).1 ∙ has-union (split_on 32 v) k h
 
 -- ---- two values that have the same texts between their spaces say the same
@@ -129,14 +128,14 @@ text-length set = omega (arith, spaced-length (chosen set 0 names), chosen-total
 -- ---- what is written of a set that is not empty says that set
 
 -- a value says the set
-says : ℕ → ScopeValue → Bool
-says set (Names s) = eqb s.bits set
-says set Invalid = false
+says : ℕ → Option Scope → Bool
+says set (Some s) = eqb s.bits set
+says set None = false
 
-says-set : (set : ℕ) (v : ScopeValue) → says set v ≡ true → v ≡ Names (of_byte set)
+says-set : (set : ℕ) (v : Option Scope) → says set v ≡ true → v ≡ Some (of_byte set)
 unfolding says
-says-set set (Names s) e = ap (λ (b : ℕ). Names (of_byte b)) (eqb-true s.bits set e)
-says-set set Invalid e = absurd (false≢true e)
+says-set set (Some s) e = ap (λ (b : ℕ). Some (of_byte b)) (eqb-true s.bits set e)
+says-set set None e = absurd (false≢true e)
 
 sound : ℕ → Bool
 sound set = eqb set 0 || says set (read_scope (scope_text set))
@@ -148,7 +147,7 @@ tested = tt
 sound-all : (set : ℕ) → set < 256 → sound set ≡ true
 sound-all set h = of_T (sound set) (at {A = ℕ} (λ k _. sound k) 0 (replicate 256 0) tested set h)
 
-pub read-written : (set : ℕ) → 0 < set → set < 256 → read_scope (scope_text set) ≡ Names (record { bits = set })
+pub read-written : (set : ℕ) → 0 < set → set < 256 → read_scope (scope_text set) ≡ Some (record { bits = set })
 unfolding sound
 read-written set p h =
     says-set set (read_scope (scope_text set)) (rw (ne_eqb set 0 (λ z. omega arith)) at (sound-all set h))

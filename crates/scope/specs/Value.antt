@@ -1,13 +1,10 @@
 -- A scope set as a text: "A scope value is names with one space between; order and repeats don't matter. Replies list
 -- names in table order."
-use Rattle.std.specs.Prelude.{ℕ, suc, ◌*◌, Bool, false, cond, not, ◌||◌, List, [], ◌∷◌, ◌++◌, eqb, length}
+use Rattle.std.specs.Prelude.{ℕ, suc, ◌*◌, Bool, false, cond, not, ◌||◌, Option, Some, None, List, [], ◌∷◌, ◌++◌, eqb}
 use Rattle.std.specs.Int.Bits.{bit_or}
-use Rattle.octets.specs.Text.{padded}
 use Rattle.octets.specs.Lists.{every, same, split_on}
-use Rattle.scope.specs.Set.{names, name_at, has}
-use Rattle.scope.specs.declared.Name.{Name}
-use Rattle.scope.specs.declared.ScopeValue.{ScopeValue}
-use Rattle.scope.specs.declared.ScopeValue.TheVariants.{Names, Invalid}
+use Rattle.scope.specs.Set.{names, name_at, has, of_byte}
+use Rattle.scope.specs.declared.Scope.{Scope}
 
 -- the number of a name in a list of names, the first of which stands for b: 0 where it is none of them
 unfoldable pub bit_from : ℕ → List ℕ → List (List ℕ) → ℕ
@@ -21,6 +18,10 @@ bit_of n = bit_from 1 n names
 abbrev pub is_name : List ℕ → Bool
 is_name n = not (eqb (bit_of n) 0)
 
+-- the set of one name: nothing for a text that is none
+unfoldable pub set_named : List ℕ → Option Scope
+set_named n = cond (is_name n) (Some (of_byte (bit_of n))) None
+
 -- the set of some names
 unfoldable pub union : List (List ℕ) → ℕ
 union [] = 0
@@ -28,8 +29,8 @@ union (n ∷ ns) = bit_or (bit_of n) (union ns)
 
 -- what a scope value says. The texts between its spaces must all be scope names, so no value with two spaces together,
 -- or with one at its start or end, says anything, and neither does the empty one
-unfoldable pub read_scope : List ℕ → ScopeValue
-read_scope v = let ns = split_on 32 v in cond (every is_name ns) (Names (record { bits = union ns })) Invalid
+unfoldable pub read_scope : List ℕ → Option Scope
+read_scope v = let ns = split_on 32 v in cond (every is_name ns) (Some (record { bits = union ns })) None
 
 -- the names of a list that a set has, the first of which stands at place k of the table
 unfoldable pub chosen : ℕ → ℕ → List (List ℕ) → List (List ℕ)
@@ -49,10 +50,6 @@ scope_text set = spaced (chosen set 0 names)
 -- the name at place k as it is written: nothing where it is not chosen, the first as it stands, each other behind a space
 unfoldable pub name_text : Bool → Bool → ℕ → List ℕ
 name_text chosen first k = cond chosen (cond first (name_at k) (32 ∷ name_at k)) []
-
--- a name as the code's table has it: its length, and its bytes with spaces behind them, 7 in all
-unfoldable pub row_of : List ℕ → Name
-row_of n = record { 0 = length n; 1 = padded 7 n }
 
 -- n is one of the texts: by this the laws say that order and repeats don't matter
 unfoldable pub is_among : List ℕ → List (List ℕ) → Bool

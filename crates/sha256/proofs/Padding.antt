@@ -1,11 +1,15 @@
 -- Laws of the padding: its length, its stores one behind the other, and that a padded message is whole blocks.
 -- Assumes nothing.
-use Rattle.std.proofs.Common.{◌≡◌, ℕ, zero, suc, ◌+◌, ◌*◌, ◌/◌, ◌%◌, List, [], ◌∷◌, ◌++◌, length, take, drop, set, replicate, sym, ap, ◌∙◌, ap₂, append_assoc, suc-add, zero-add, add-one, arith, length-append, length-drop, take-append-drop, length-take-le}
+use Rattle.std.proofs.Common.{◌≡◌, ℕ, zero, suc, ◌+◌, ◌*◌, ◌/◌, ◌%◌, ◌^◌, ◌≤◌, List, [], ◌∷◌, ◌++◌, length, take, drop, set, replicate, sym, ap, ◌∙◌, ap₂, append_assoc, suc-add, zero-add, add-one, arith, length-append, length-drop, take-append-drop, length-take-le}
 use lib.ListN.{length-replicate}
 use lib.Seq.{sets, take-append-le, drop-append-le}
+use native.Mathlib.Nat.{mul_comm, add-zero}
+use Rattle.std.specs.Int.{w64, to_be_bytes}
 use Rattle.octets.specs.BigEndian.{big_endian_bytes}
-use Rattle.octets.proofs.BigEndian.{length-be-bytes}
-use Rattle.octets.proofs.Stores.{sets-append}
+use Rattle.octets.proofs.BigEndian.{length-be-bytes, be-low-eight}
+use Rattle.octets.specs.Writing.{Appended}
+use Rattle.octets.proofs.Writing.{append-both, append-length, append-front}
+use Rattle.octets.proofs.Stores.{sets-append, part-sets-same}
 use Rattle.sha256.specs.Digest.{zero_bytes, padding, padded_message, compressed, hashed, hashed_all, state_bytes, digest}
 use Rattle.sha256.specs.Constants.{initial_hash}
 use Rattle.sha256.specs.declared.State.{State}
@@ -19,31 +23,16 @@ length-padding n =
     let some : length zeros ≡ zero_bytes n = length-replicate (zero_bytes n) 0 in
     omega (arith, size, some, length-be-bytes 8 (8 * n))
 
--- the number of bits in eight bytes: 8 times n may be written without being a number of 64 bits
-pub bits-bytes : (n : ℕ) → big_endian_bytes 8 (8 * n) ≡ big_endian_bytes 7 (n / 32) ++ ((n % 32 * 8) ∷ [])
-unfolding big_endian_bytes
-bits-bytes n =
-    let high : 8 * n / 256 ≡ n / 32 = omega arith in
-    let low : 8 * n % 256 ≡ n % 32 * 8 = omega arith in
-    rw (high, low)
-
-three-stores : (l : List ℕ) (i : ℕ) (u v : List ℕ) (x : ℕ)
-    → set (sets (sets l i u) (i + length u) v) (i + length u + length v) x ≡ sets l i (u ++ (v ++ (x ∷ [])))
-three-stores l i u v x = sets-append (sets l i u) (i + length u) v (x ∷ []) ∙ sets-append l i u (v ++ (x ∷ []))
-
--- the four stores of the padding are one
-pub padding-stores : (l : List ℕ) (at n : ℕ) →
-    set (sets (sets (set l at 128) (at + 1) (replicate (zero_bytes n) 0)) (at + 1 + zero_bytes n) (big_endian_bytes 7 (n / 32)))
-    (at + 1 + zero_bytes n + 7) (n % 32 * 8)
-    ≡ sets l at (padding n)
+-- the three stores of the padding are one; `bits` are the bytes of the number of bits, of which eight bytes hold the last 64
+pub padding-stores : (l : List ℕ) (at n : ℕ) (bits : List ℕ) → bits ≡ to_be_bytes w64 (n * 8 % 2 ^ 64)
+    → sets (sets (set l at 128) (at + 1) (replicate (zero_bytes n) 0)) (at + 1 + zero_bytes n) bits ≡ sets l at (padding n)
 unfolding padding
-padding-stores l at n =
+padding-stores l at n bits e =
     let zeros : List ℕ = replicate (zero_bytes n) 0 in
-    let high = big_endian_bytes 7 (n / 32) in
     let some : length zeros ≡ zero_bytes n = length-replicate (zero_bytes n) 0 in
-    let all = three-stores (set l at 128) (at + 1) zeros high (n % 32 * 8) in
-    let placed = rw (some, length-be-bytes 7 (n / 32)) at all in
-    placed ∙ rw (bits-bytes n, add-one)
+    let all : bits ≡ big_endian_bytes 8 (8 * n) = e ∙ be-low-eight (n * 8) ∙ ap (big_endian_bytes 8) (mul_comm n 8) in
+    let both = sets-append (set l at 128) (at + 1) zeros bits in
+    rw some at both ∙ rw (all, add-one)
 
 -- ---- a padded message is whole blocks
 
@@ -69,9 +58,16 @@ pub length_rest : (n : ℕ) (rest : List ℕ) → length rest ≡ n % 64 → len
 length_rest n rest e = length-append rest (padding n) ∙ rw (length-padding n) (omega arith)
 
 -- the whole blocks of a message come first, then its rest with the padding
+whole-blocks : (s : State) (m : List ℕ) → hashed_all s (take (length m / 64 * 64) m) ≡ hashed_all s m
+unfolding hashed
+whole-blocks s m =
+    let n = length m / 64 in
+    let front : length (take (n * 64) m) ≡ n * 64 = length-take-le (n * 64) m (omega arith) in
+    let count : length (take (n * 64) m) / 64 ≡ n = omega arith in
+    rw count (sym (hash-append n 0 s (take (n * 64) m) (drop (n * 64) m) (omega arith)) ∙ rw (add-zero, take-append-drop))
+
 pub digest-parts : (m : List ℕ) →
-    let whole = length m / 64 * 64 in
-    state_bytes (hashed_all (hashed_all initial_hash (take whole m)) (drop whole m ++ padding (length m))) ≡ digest m
+    state_bytes (hashed_all (hashed_all initial_hash m) (drop (length m / 64 * 64) m ++ padding (length m))) ≡ digest m
 unfolding digest padded_message
 digest-parts m =
     let whole = length m / 64 * 64 in
@@ -80,4 +76,17 @@ digest-parts m =
     let cut : take whole m ++ (drop whole m ++ p) ≡ m ++ p =
     sym (append_assoc (take whole m) (drop whole m) p) ∙ ap (λ (t : List ℕ). t ++ p) (take-append-drop whole m) in
     ap state_bytes
-    (hash-both initial_hash (take whole m) (drop whole m ++ p) (omega (arith, front)) ∙ ap (hashed_all initial_hash) cut)
+    (ap (λ (s : State). hashed_all s (drop whole m ++ p)) (sym (whole-blocks initial_hash m))
+    ∙ hash-both initial_hash (take whole m) (drop whole m ++ p) (omega (arith, front))
+    ∙ ap (hashed_all initial_hash) cut)
+
+-- the rest and the padding, one behind the other at the front of two blocks
+pub padded-front : (rest mid out : List ℕ) (n end size : ℕ) → length rest ≡ n % 64
+    → Appended (replicate 128 0) 0 rest mid end → Appended mid end (padding n) out size → (size ≤ length out) × (take size out ≡ rest ++ padding n)
+padded-front rest mid out n end size e a b =
+    let all = append-both a b in
+    let long = length_rest n rest e in
+    let fits : length (rest ++ padding n) ≤ 128 = omega (arith, long) in (
+      rw (append-front all, append-length all) fits,
+      rw (append-front all, all.bytes) (part-sets-same (replicate 128 0) 0 (rest ++ padding n) (omega (arith, fits))),
+    )

@@ -6,6 +6,7 @@
 
 ghost use Rattle.std.specs.Prelude.{◌≡◌, ◌+◌, ◌%◌, ◌<◌, ◌≤◌, ◌++◌, length, take};
 ghost use Rattle.std.proofs.lemmas.List.Edits.{sets};
+ghost use Rattle.std.specs.List.{fold};
 ghost use Rattle.octets.specs.BigEndian.{big_endian_bytes};
 ghost use Rattle.octets.specs.Writing.{Appended};
 ghost use Rattle.sha256.specs.Functions.{plus, IsTurn, rotr, ch, maj, big_sigma, small_sigma, big_sigma0, big_sigma1, small_sigma0, small_sigma1};
@@ -25,22 +26,8 @@ pub struct State {
     pub h: u32,
 }
 
-// The sum modulo 2^32.
-fn plus(x: u32, y: u32) -> u32
-    ensures { result ≡ plus x y }
-{
-    std::num::wrapping_add_u32(x, y)
-}
-
-// x turned to the right by n bits.
-fn rotr(x: u32, n: u32) -> u32
-    requires { IsTurn n }
-    ensures { result ≡ rotr n x }
-{
-    x >> n | x << (32 - n)
-}
-
 // The bits of y where x has ones, and of z where it has zeros.
+#[tactic(auto, unfolding(crate::specs::Functions::ch))]
 fn ch(x: u32, y: u32, z: u32) -> u32
     ensures { result ≡ ch x y z }
 {
@@ -48,6 +35,7 @@ fn ch(x: u32, y: u32, z: u32) -> u32
 }
 
 // At each place the bit that two of the three have.
+#[tactic(auto, unfolding(crate::specs::Functions::maj))]
 fn maj(x: u32, y: u32, z: u32) -> u32
     ensures { result ≡ maj x y z }
 {
@@ -55,19 +43,21 @@ fn maj(x: u32, y: u32, z: u32) -> u32
 }
 
 // x turned by i, by j and by k bits, the three added without carry.
+#[tactic(auto, using(crate::proofs::Words::turned), unfolding(crate::specs::Functions::big_sigma))]
 fn big_sigma(x: u32, i: u32, j: u32, k: u32) -> u32
     requires { IsTurn i × IsTurn j × IsTurn k }
     ensures { result ≡ big_sigma i j k x }
 {
-    rotr(x, i) ^ rotr(x, j) ^ rotr(x, k)
+    x.rotate_right(i) ^ x.rotate_right(j) ^ x.rotate_right(k)
 }
 
 // x turned by i and by j bits and shifted by k bits, the three added without carry.
+#[tactic(auto, using(crate::proofs::Words::turned), unfolding(crate::specs::Functions::small_sigma))]
 fn small_sigma(x: u32, i: u32, j: u32, k: u32) -> u32
     requires { IsTurn i × IsTurn j × (k < 32) }
     ensures { result ≡ small_sigma i j k x }
 {
-    rotr(x, i) ^ rotr(x, j) ^ x >> k
+    x.rotate_right(i) ^ x.rotate_right(j) ^ x >> k
 }
 
 fn big_sigma0(x: u32) -> u32
@@ -95,34 +85,37 @@ fn small_sigma1(x: u32) -> u32
 }
 
 // The first sum of a round with the constant k and the word w.
+#[tactic(auto, unfolding(crate::specs::Digest::first_sum))]
 fn first_sum(s: State, k: u32, w: u32) -> u32
     ensures { result ≡ first_sum s k w }
 {
-    plus(
-        plus(plus(plus(s.h, big_sigma1(s.e)), ch(s.e, s.f, s.g)), k),
-        w,
-    )
+    s.h.wrapping_add(big_sigma1(s.e))
+        .wrapping_add(ch(s.e, s.f, s.g))
+        .wrapping_add(k)
+        .wrapping_add(w)
 }
 
 // The second sum of a round.
+#[tactic(auto, unfolding(crate::specs::Digest::second_sum))]
 fn second_sum(s: State) -> u32
     ensures { result ≡ second_sum s }
 {
-    plus(big_sigma0(s.a), maj(s.a, s.b, s.c))
+    big_sigma0(s.a).wrapping_add(maj(s.a, s.b, s.c))
 }
 
 // What a round with the constant k and the word w makes of the working variables.
+#[tactic(auto, unfolding(crate::specs::Digest::round))]
 fn round(s: State, k: u32, w: u32) -> State
     ensures { result ≡ round s k w }
 {
     let t1 = first_sum(s, k, w);
     let t2 = second_sum(s);
     State {
-        a: plus(t1, t2),
+        a: t1.wrapping_add(t2),
         b: s.a,
         c: s.b,
         d: s.c,
-        e: plus(s.d, t1),
+        e: s.d.wrapping_add(t1),
         f: s.e,
         g: s.f,
         h: s.g,
@@ -130,18 +123,19 @@ fn round(s: State, k: u32, w: u32) -> State
 }
 
 // The working variables added to the hash value so far.
+#[tactic(auto, unfolding(crate::specs::Digest::added))]
 fn added(s: State, t: State) -> State
     ensures { result ≡ added s t }
 {
     State {
-        a: plus(s.a, t.a),
-        b: plus(s.b, t.b),
-        c: plus(s.c, t.c),
-        d: plus(s.d, t.d),
-        e: plus(s.e, t.e),
-        f: plus(s.f, t.f),
-        g: plus(s.g, t.g),
-        h: plus(s.h, t.h),
+        a: s.a.wrapping_add(t.a),
+        b: s.b.wrapping_add(t.b),
+        c: s.c.wrapping_add(t.c),
+        d: s.d.wrapping_add(t.d),
+        e: s.e.wrapping_add(t.e),
+        f: s.f.wrapping_add(t.f),
+        g: s.g.wrapping_add(t.g),
+        h: s.h.wrapping_add(t.h),
     }
 }
 
@@ -233,49 +227,48 @@ const BLOCK_SIZE: usize = 64;
 const ROUNDS: usize = 64;
 
 // The next word of a schedule, of those 2, 7, 15 and 16 places before it.
+#[tactic(auto, unfolding(crate::specs::Digest::schedule_word))]
 fn schedule_word(a: u32, b: u32, c: u32, d: u32) -> u32
     ensures { result ≡ schedule_word a b c d }
 {
-    plus(plus(plus(small_sigma1(a), b), small_sigma0(c)), d)
+    small_sigma1(a)
+        .wrapping_add(b)
+        .wrapping_add(small_sigma0(c))
+        .wrapping_add(d)
 }
 
 // Reads the sixteen words of a block.
-fn load_words(block: &[u8], w: &mut [u32])
-    requires { (length block.now ≡ 64) × (length w.old ≡ 64) }
+fn load_words(block: &[u8; BLOCK_SIZE], w: &mut [u32; ROUNDS])
     ensures { w.new ≡ sets w.old 0 (block_words 16 block.now) }
 {
-    for t in 0..16 {
-        w[t] = octets::read_be32(block, 4 * t);
+    // By index: what a zip with `w.iter_mut()` writes is not known to a proof.
+    for (t, bytes) in block.as_chunks().0.iter().enumerate() {
+        w[t] = u32::from_be_bytes(*bytes);
     }
 }
 
 // Makes the other 48 words of a schedule.
-fn extend_schedule(w: &mut [u32])
-    requires { length w.old ≡ 64 }
+fn extend_schedule(w: &mut [u32; ROUNDS])
     ensures { w.new ≡ extended 48 (take 16 w.old) }
 {
+    // By index: each word is made of four that stand at set distances before it.
     for t in 16..ROUNDS {
         w[t] = schedule_word(w[t - 2], w[t - 7], w[t - 15], w[t - 16]);
     }
 }
 
 // The working variables after a block's rounds.
-fn all_rounds(s: State, w: &[u32]) -> State
-    requires { length w.now ≡ 64 }
+fn all_rounds(s: State, w: &[u32; ROUNDS]) -> State
     ensures { result ≡ rounds s round_constants w.now }
 {
-    // The table is written to the stack where it is named: once for all rounds.
-    let k = ROUND_CONSTANTS;
-    let mut v = s;
-    for t in 0..ROUNDS {
-        v = round(v, k[t], w[t]);
-    }
-    v
+    ROUND_CONSTANTS
+        .iter()
+        .zip(w)
+        .fold(s, |v, (k, word)| round(v, *k, *word))
 }
 
 // The hash value after a block.
-fn compress(s: State, block: &[u8]) -> State
-    requires { length block.now ≡ 64 }
+fn compress(s: State, block: &[u8; BLOCK_SIZE]) -> State
     ensures { result ≡ compressed s block.now }
 {
     let mut w = [0u32; ROUNDS];
@@ -284,16 +277,11 @@ fn compress(s: State, block: &[u8]) -> State
     added(s, all_rounds(s, &w))
 }
 
-// The hash value after all whole blocks of m.
-fn hash_blocks(s: State, m: &[u8]) -> State
-    ensures { result ≡ hashed_all s m.now }
+// The hash value after some blocks.
+fn hash_blocks(s: State, blocks: &[[u8; BLOCK_SIZE]]) -> State
+    ensures { result ≡ fold compressed s blocks.now }
 {
-    let mut v = s;
-    for i in 0..m.len() / BLOCK_SIZE {
-        let at = BLOCK_SIZE * i;
-        v = compress(v, &m[at..at + BLOCK_SIZE]);
-    }
-    v
+    blocks.iter().fold(s, |v, block| compress(v, block))
 }
 
 // Writes the padding of a message of n bytes from `at` on, and says where it ends.
@@ -304,19 +292,16 @@ fn append_padding(out: &mut [u8], at: usize, n: usize) -> usize
     let zeros = (119 - n % BLOCK_SIZE) % BLOCK_SIZE;
     out[at] = 128;
     octets::clear_at(out, at + 1, zeros);
-    let last = at + 1 + zeros;
-    // Eight bytes for the number of bits, 8 * n, which may be more than a number here can hold.
-    octets::write_be(out, last, 7, (n / 32) as u64);
-    out[last + 7] = (n % 32 * 8) as u8;
-    last + 8
+    // The number of bits, of which the last 64 bits count.
+    let bits = (n as u64).wrapping_mul(8);
+    octets::append(out, at + 1 + zeros, &bits.to_be_bytes())
 }
 
-// Writes a word to the four bytes at `at`.
-fn write_word(out: &mut [u8], at: usize, x: u32)
-    requires { at + 4 ≤ length out.old }
-    ensures { out.new ≡ sets out.old at (big_endian_bytes 4 x) }
+// The four bytes of a word.
+fn word_bytes(x: u32) -> [u8; 4]
+    ensures { result ≡ big_endian_bytes 4 x }
 {
-    octets::write_be(out, at, 4, x as u64);
+    x.to_be_bytes()
 }
 
 // The eight words as bytes.
@@ -324,11 +309,7 @@ fn state_bytes(s: State) -> [u8; DIGEST_SIZE]
     ensures { result ≡ state_bytes s }
 {
     let words = [s.a, s.b, s.c, s.d, s.e, s.f, s.g, s.h];
-    let mut out = [0u8; DIGEST_SIZE];
-    for i in 0..8 {
-        write_word(&mut out, 4 * i, words[i]);
-    }
-    out
+    octets::bytes_at(words.map(word_bytes).as_flattened(), 0)
 }
 
 // The hash value after the last of a message of n bytes, with its padding.
@@ -336,17 +317,18 @@ fn hash_rest(s: State, rest: &[u8], n: usize) -> State
     requires { length rest.now ≡ n % 64 }
     ensures { result ≡ hashed_all s (rest.now ++ padding n) }
 {
-    let mut blocks = [0u8; 2 * BLOCK_SIZE];
-    let end = octets::append(&mut blocks, 0, rest);
-    let size = append_padding(&mut blocks, end, n);
-    hash_blocks(s, &blocks[..size])
+    let mut padded = [0u8; 2 * BLOCK_SIZE];
+    let end = octets::append(&mut padded, 0, rest);
+    let size = append_padding(&mut padded, end, n);
+    let (blocks, _) = padded[..size].as_chunks();
+    hash_blocks(s, blocks)
 }
 
 // The digest of a message.
 pub fn digest(message: &[u8]) -> [u8; DIGEST_SIZE]
     ensures { result ≡ digest message.now }
 {
-    let whole = message.len() / BLOCK_SIZE * BLOCK_SIZE;
-    let s = hash_blocks(INITIAL_HASH, &message[..whole]);
-    state_bytes(hash_rest(s, &message[whole..], message.len()))
+    let (blocks, rest) = message.as_chunks();
+    let s = hash_blocks(INITIAL_HASH, blocks);
+    state_bytes(hash_rest(s, rest, message.len()))
 }

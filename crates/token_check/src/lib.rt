@@ -4,16 +4,14 @@
 // look-up, and the store's time.
 #![tactic(auto)]
 
-ghost use Rattle.std.specs.Prelude.{◌≡◌, true, [], length};
-ghost use Rattle.token_store.specs.Layout.{store_size};
+ghost use Rattle.std.specs.Prelude.{◌≡◌, true, []};
 ghost use Rattle.token_store.specs.Store.{decode, is_live};
 ghost use Rattle.protocol.specs.Granting.{live_token, check_slots};
 ghost use Rattle.protocol.specs.Outcomes.{check_outcome};
 
-use admission::Admission;
-use encoding::HandleText;
+use encoding::Handle;
 use protocol::{CheckAnswer, LiveToken};
-use token_store::{Found, Slot, Sought};
+use token_store::{Slot, Sought, StoreBytes};
 
 // What a live token stands for, and how many seconds it has left at t.
 fn live_token(token: Slot, t: u64) -> LiveToken
@@ -29,11 +27,10 @@ fn live_token(token: Slot, t: u64) -> LiveToken
 }
 
 // What the store says of the access token presented, at the time t.
-fn look_up(store: &[u8], t: u64, presented: HandleText) -> CheckAnswer
-    requires { length store.now ≡ store_size }
+fn look_up(store: &StoreBytes, t: u64, presented: Option<Handle>) -> CheckAnswer
     ensures { result ≡ check_slots t (decode store.now).slots presented }
 {
-    let Found::At(i) = token_store::find(store, Sought::Access, presented) else {
+    let Some(i) = token_store::find(store, Sought::Access, presented) else {
         return CheckAnswer::NotLive;
     };
     let token = token_store::slot_at(store, i);
@@ -49,7 +46,7 @@ pub fn check(token: &[u8], registry: &[u8], store: &mut [u8], clock: u64) -> Che
         ≡ check_outcome token.now registry.now store.old clock }
 {
     match admission::enter(false, registry, store, clock) {
-        Admission::Refused(refusal) => CheckAnswer::Refused(refusal),
-        Admission::At(t) => look_up(store, t, encoding::read_handle(token)),
+        Ok(t) => look_up(store.as_array().unwrap(), t, encoding::read_handle(token)),
+        Err(refusal) => CheckAnswer::Refused(refusal),
     }
 }

@@ -13,25 +13,19 @@ ghost use Rattle.protocol.specs.Outcomes.{serve_token, token_outcome};
 ghost use Rattle.admission.specs.Entering.{Ready, Serves};
 ghost use Rattle.token_endpoint.specs.Replies.{reply_to};
 
-use admission::Admission;
-use granting::Granted;
+use granting::{Issued, Time};
 use protocol::limits::TOKEN_RANDOM;
-use protocol::{Decision, TokenAnswer};
+use protocol::{Refusal, TokenAnswer};
 
 // Writes the reply to what was granted, and gives its length.
-fn write_reply(output: &mut [u8], random: &[u8], granted: Granted) -> usize
+#[tactic(auto, unfolding(crate::specs::Replies::reply_to))]
+fn write_reply(output: &mut [u8], random: &[u8], granted: Result<Issued, Refusal>) -> usize
     requires { (least_output ≤ length output.old) × (length random.now ≡ token_random) }
     ensures { Appended output.old 0 (reply_to random.now granted) output.new result }
 {
-    let decision = granted.decision;
-    match decision {
-        Decision::Refuse(refusal) => token_reply::write_refusal(output, refusal),
-        Decision::Grant => token_reply::write_tokens(
-            output,
-            random,
-            granted.refresh,
-            granted.scope,
-        ),
+    match granted {
+        Ok(issued) => token_reply::write_tokens(output, random, issued.refresh, issued.scope),
+        Err(refusal) => token_reply::write_refusal(output, refusal),
     }
 }
 
@@ -52,10 +46,10 @@ fn serve(
         (decode store.old) (decode store.new) output.old output.new result }
 {
     let reading = token_request::read(registry, header, body);
-    let granted = granting::grant(store, t, random, reading);
+    let time = Time { seconds: t };
+    let granted = granting::grant(store.as_mut_array().unwrap(), time, random, reading);
     let length = write_reply(output, random, granted);
-    let decision = granted.decision;
-    token_reply::answer(decision, header, length)
+    token_reply::answer(granted.map(|_| ()), header, length)
 }
 
 // Answers a token request. `header` is the Authorization field's value, empty where none came.
@@ -74,7 +68,7 @@ pub fn token(
 {
     let unfit = admission::unfit_buffers(TOKEN_RANDOM, random, output);
     match admission::enter(unfit, registry, store, clock) {
-        Admission::Refused(refusal) => token_reply::unfit(refusal),
-        Admission::At(t) => serve(header, body, registry, store, t, random, output),
+        Ok(t) => serve(header, body, registry, store, t, random, output),
+        Err(refusal) => token_reply::unfit(refusal),
     }
 }

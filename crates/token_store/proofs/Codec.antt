@@ -1,6 +1,6 @@
 -- Laws of a store's bytes (specs/Store.antt): what is read from them, what a write does, and that nothing is lost.
 --
--- In order: the slots and the time that are read, and where their fields lie; a store of a whole slot or of the time, as a
+-- In order: the slots and the time that are read, and the slots by their bytes; a store of a whole slot or of the time, as a
 -- change of what is read; writing what was read; reading what was written; the fresh
 -- store.
 --
@@ -15,18 +15,20 @@ use native.Mathlib.Decide.{dec_lt}
 use native.Mathlib.Omega.{arith}
 use lib.ListN.{length, take, drop, get_or, replicate, length-append, length-drop, length-map, length-replicate, get_or-replicate, take-append-drop, get_or-map, get_or-eq_default}
 use lib.Seq.{take_all, take_at, drop-append-add, length-take-le, sets}
+use Rattle.std.specs.Simd.{first_chunks}
+use Rattle.std.proofs.lemmas.List.{get_or_default}
 use Rattle.octets.specs.Lists.{part, Bytes}
 use Rattle.octets.specs.BigEndian.{big_endian, big_endian_from, big_endian_bytes}
 use Rattle.octets.specs.Search.{replace_all}
-use Rattle.octets.proofs.Lists.{take-bytes, drop-bytes, length_part}
+use Rattle.octets.proofs.Lists.{take-bytes, drop-bytes, length_part, part-part}
 use Rattle.octets.proofs.Searches.{replace_all-map}
 use Rattle.octets.proofs.Stores.{part-sets-after, part-sets-before, part-sets-same}
 use Rattle.octets.proofs.BigEndian.{be-bytes, bytes-be, length-be-bytes}
 use Rattle.token_store.specs.Layout.{time_size, slot_count, slot_size, store_size, slot_start}
 use Rattle.token_store.specs.Store.{Store, SlotFits, SlotsFit, concat, tabulate, encode_slot, decode_slot, slot_bytes, decode, encode, free_slot, fresh, slot_of, with_slot, with_time}
 use Rattle.token_store.specs.declared.Slot.{Slot}
-use Rattle.token_store.proofs.Tables.{length-tabulate, get_d_tabulate, tabulate-cong, tabulate-list, tabulate-set, map-tabulate, concat-parts, part-concat, length-concat, part-replicate}
-use Rattle.token_store.proofs.Slots.{slot-back, slot-forth, read_fits, length-slot, slot_in, slot-in, free-read, free_bytes, free-fits}
+use Rattle.token_store.proofs.Tables.{chunks-table, length-tabulate, get_d_tabulate, tabulate-cong, tabulate-list, tabulate-set, map-tabulate, concat-parts, part-concat, length-concat, part-replicate}
+use Rattle.token_store.proofs.Slots.{slot-back, slot-forth, read_fits, length-slot, free-read, free_bytes, free-fits}
 
 -- ---- what is read
 
@@ -46,9 +48,24 @@ module _ (b : List ℕ) (i : ℕ) (size : length b ≡ store_size) (below : i < 
   pub length-slot-bytes : length (slot_bytes b i) ≡ slot_size
   length-slot-bytes = length_part b (slot_start i) slot_size (omega arith)
 
-  -- its fields lie where the layout says
-  pub slot_read : slot_of (decode b) i ≡ slot_in b (slot_start i)
-  slot_read = slot_at b i below ∙ slot-in b (slot_start i) (omega arith)
+-- the chunks behind the time are the bytes of the slots
+pub chunks-slots : (b : List ℕ) → map decode_slot (first_chunks slot_size slot_count (part b time_size (slot_count * slot_size))) ≡ (decode b).slots
+unfolding decode
+chunks-slots b =
+    let behind : List ℕ = part b time_size (slot_count * slot_size) in
+    ap (λ (l : List (List ℕ)). map decode_slot l)
+    (chunks-table slot_size slot_count behind
+    ∙ tabulate-cong (λ i. part behind (i * slot_size) slot_size) (slot_bytes b) slot_count (λ i below. part-part b time_size (slot_count * slot_size) (i * slot_size) slot_size (omega arith)))
+    ∙ map-tabulate decode_slot (slot_bytes b) slot_count
+
+module _ (b : List ℕ) (pieces : List (List ℕ)) (said : map decode_slot pieces ≡ (decode b).slots) where
+  pub length-pieces : length pieces ≡ slot_count
+  length-pieces = sym (length-map pieces decode_slot) ∙ ap length said ∙ length-slots b
+
+  pub piece_read : (i : ℕ) (d : List ℕ) → i < slot_count → slot_of (decode b) i ≡ decode_slot (get_or pieces i d)
+  piece_read i d below =
+      let within : i < length (map decode_slot pieces) = omega (arith, length-map pieces decode_slot, length-pieces) in
+      ap (λ (l : List Slot). get_or l i free_slot) (sym said) ∙ get_or_default (map decode_slot pieces) i free_slot (decode_slot d) within ∙ get_or-map decode_slot pieces i d
 
 -- ---- a store of a whole slot changes that slot of what is read, and nothing else
 

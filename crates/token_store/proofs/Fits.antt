@@ -5,7 +5,7 @@
 --
 -- Not here: the slots and the time that are read from a store's bytes (`Codec`).
 -- Assumes nothing.
-use mathlib.Core.Path.{◌≡◌, sym, ap, ◌∙◌, subst}
+use mathlib.Core.Path.{◌≡◌, refl, sym, ap, ◌∙◌, subst}
 use mathlib.Core.Bool.{Bool, true, false, not, ◌&&◌, ◌||◌, and-false}
 use mathlib.Core.List.{List}
 use Prim.Native.Nat.{ℕ, ◌+◌, ◌-◌, ◌^◌, ◌≤◌, ◌<◌}
@@ -18,10 +18,10 @@ use Rattle.octets.specs.Lists.{Bytes, every, is_zero, part}
 use Rattle.octets.proofs.Booleans.{and_left, and_right, and-three}
 use Rattle.octets.proofs.Lists.{drop-take}
 use Rattle.token_store.specs.Layout.{time_size, slot_count, slot_size, store_size, latest_time, handle_size, link_size, at_client, at_scope, at_link}
-use Rattle.token_store.specs.Store.{Store, SlotsFit, kind_free, kind_last, is_used, is_token_kind, is_challenged_kind, encode_slot, decode_slot, decode, encode, free_slot}
+use Rattle.token_store.specs.Store.{Store, SlotsFit, kind_free, kind_last, is_used, is_token, is_challenged, encode_slot, decode_slot, decode, encode, free_slot}
 use Rattle.token_store.specs.Fit.{fit_link, fit_slot, fit_store}
 use Rattle.token_store.specs.declared.Slot.{Slot}
-use Rattle.token_store.proofs.Slots.{slot-forth, slot_in, slot-alone, free_bytes, free-unused}
+use Rattle.token_store.proofs.Slots.{slot-forth, slot-in, free_bytes, free-unused}
 use Rattle.token_store.proofs.Codec.{length-encode, decode-encode}
 
 -- ---- a slot
@@ -74,35 +74,40 @@ fit_free clients = fit-not-used clients free_slot free-unused ∙ ap (every is_z
 
 -- ---- a slot by its bytes
 
-module _ (clients : ℕ) (l : List ℕ) (size : length l ≡ slot_size) where
-  -- of kind 0, where all bytes are to be zero
-  pub fit-zero : Bytes l → get_or l 0 0 ≡ kind_free → every is_zero l ≡ fit_slot clients (decode_slot l)
-  fit-zero bytes k =
-      ap (every is_zero) (sym (slot-forth l size bytes))
-      ∙ sym (fit-not-used clients (decode_slot l) (rw (slot-alone l size) (ap not (eq-eqb (get_or l 0 0) kind_free k))))
-
-  -- of any other kind
-  pub fit-in-use-bytes : (get_or l 0 0 ≡ kind_free → ⊥)
-      → (leb (get_or l 0 0) kind_last && ltb (get_or l at_client 0) clients && not (eqb (get_or l at_scope 0) 0) && fit_link (decode_slot l))
-      ≡ fit_slot clients (decode_slot l)
-  fit-in-use-bytes n =
-      rw (slot-alone l size) (sym (fit-in-use clients (slot_in l 0) (ap not (ne_eqb (get_or l 0 0) kind_free n))))
-
--- the link, each case that the code has: of a token what stands behind the origin, of any other kind all of it
 module _ (l : List ℕ) (size : length l ≡ slot_size) where
-  pub fit-link-token : is_token_kind (get_or l 0 0) ≡ true
+  module _ (clients : ℕ) where
+    -- of kind 0, where all bytes are to be zero
+    pub fit-zero : Bytes l → (decode_slot l).kind ≡ kind_free → every is_zero l ≡ fit_slot clients (decode_slot l)
+    fit-zero bytes k =
+        ap (every is_zero) (sym (slot-forth l size bytes))
+        ∙ sym (fit-not-used clients (decode_slot l) (ap not (eq-eqb (decode_slot l).kind kind_free k)))
+
+    -- of any other kind
+    pub fit-in-use-bytes : ((decode_slot l).kind ≡ kind_free → ⊥)
+        → (leb (decode_slot l).kind kind_last && ltb (get_or l at_client 0) clients && not (eqb (get_or l at_scope 0) 0) && fit_link (decode_slot l))
+        ≡ fit_slot clients (decode_slot l)
+    fit-in-use-bytes n =
+        let client = ap (λ (s : Slot). s.client) (slot-in l size) in
+        let scope = ap (λ (s : Slot). s.scope) (slot-in l size) in
+        rw (← client, ← scope) (sym (fit-in-use clients (decode_slot l) (ap not (ne_eqb (decode_slot l).kind kind_free n))))
+
+  link : (decode_slot l).link ≡ part l at_link link_size
+  link = ap (λ (s : Slot). s.link) (slot-in l size)
+
+  -- the link, each case that the code has: of a token what stands behind the origin, of any other kind all of it
+  pub fit-link-token : is_token (decode_slot l) ≡ true
       → every is_zero (part l (at_link + handle_size) (link_size - handle_size)) ≡ fit_link (decode_slot l)
   unfolding fit_link
   fit-link-token t =
       let rest : drop handle_size (part l at_link link_size) ≡ part l (at_link + handle_size) (link_size - handle_size) =
       drop-take (drop at_link l) link_size handle_size ∙ ap (λ (x : List ℕ). take (link_size - handle_size) x) (drop-drop handle_size at_link l)
       in
-      rw (slot-alone l size, t) (ap (every is_zero) (sym rest))
+      rw (t, link) (ap (every is_zero) (sym rest))
 
-  pub fit-link-other : is_token_kind (get_or l 0 0) ≡ false
-      → (is_challenged_kind (get_or l 0 0) || every is_zero (part l at_link link_size)) ≡ fit_link (decode_slot l)
+  pub fit-link-other : is_token (decode_slot l) ≡ false
+      → (is_challenged (decode_slot l) || every is_zero (part l at_link link_size)) ≡ fit_link (decode_slot l)
   unfolding fit_link
-  fit-link-other t = rw (slot-alone l size, t)
+  fit-link-other t = rw (t, link) refl
 
 -- ---- a store
 

@@ -1,75 +1,85 @@
--- Laws of a scan of a store's slots, from the lowest on, that stops at the first that passes a test: `find`, `vacant`,
--- `clashes` and `fit` are such scans, and what each answers is said of the place of that slot.
+-- Laws of a search of a store's slots, from the lowest on: `find`, `vacant`, `has_room`, `clashes` and `fit` are such searches.
 --
--- In order: what a scan answers, one slot further, where it stops and at the end; what an answer says of the slots.
+-- In order: what std's searches of the slots' bytes answer, as what the search of the slots does; what an answer says of the slots.
 --
 -- Not here: searches of any list (octets' `Searches`), counts (octets' `Counting`).
 -- Assumes nothing.
-use mathlib.Core.Path.{◌≡◌, refl, sym, ap, ◌∙◌}
-use mathlib.Core.Bool.{Bool, true, false, cond, not}
-use mathlib.Core.List.{List}
-use Prim.Native.Nat.{ℕ, ◌+◌, ◌≤◌, ◌<◌}
+use mathlib.Core.Path.{◌≡◌, refl, sym, ap, ap₂, ◌∙◌}
+use mathlib.Core.Bool.{Bool, true, false, cond, ◌&&◌, ◌||◌}
+use mathlib.Core.List.{List, [], ◌∷◌, map}
+use Prim.Native.Nat.{ℕ, ◌+◌, ◌≤◌, ◌<◌, min}
+use native.Mathlib.Decide.{dec_lt}
 use native.Mathlib.Omega.{arith}
-use borrow.Author.Tests.{lt-ltb, le-ltb, ltb-true, ltb-false}
-use lib.Dec.{ltb}
-use lib.ListN.{length, get_or, set, get_or-eq_default}
+use Rattle.std.specs.Prelude.{Some, None}
+use Rattle.std.proofs.Common.{length-take}
+use Rattle.std.specs.List.{position_or_len, list_any, list_all, filter, count_by}
+use Rattle.std.proofs.lemmas.List.Recursion.{is_position_or_len, is_count_by}
+use Rattle.std.proofs.lemmas.List.Sums.{length-filter}
+use borrow.Author.Tests.{lt-ltb, le-ltb, ltb-true, ltb-false, eq-eqb, ne_eqb, le-leb, lt-leb}
+use lib.Dec.{eqb, leb, ltb}
+use lib.ListN.{length, take, get_or, set, get_or-eq_default}
 use lib.Seq.{set_out}
 use Rattle.octets.specs.Lists.{every}
-use Rattle.octets.specs.Search.{any, first_or, index_where, replace_first}
-use Rattle.octets.proofs.Searches.{index_at, scan-stop, scan-next, first_or-index, replace_first-index, any-index, every-none-fails}
+use Rattle.octets.specs.Search.{bit, count, any, first_or, index_where, replace_first}
+use Rattle.octets.proofs.Searches.{index_at, first_or-index, replace_first-index, any-index}
 use Rattle.token_store.specs.Layout.{slot_count}
-use Rattle.token_store.specs.Store.{decode, slot_of, free_slot, found_at, vacancy_at}
+use Rattle.token_store.specs.Store.{decode_slot, decode, free_slot, found_at}
 use Rattle.token_store.specs.declared.Slot.{Slot}
-use Rattle.token_store.specs.declared.Found.TheVariants.{At as Found-as-At, Nothing}
-use Rattle.token_store.specs.declared.Vacancy.TheVariants.{At as Vacancy-as-At, Full}
-use Rattle.token_store.proofs.Codec.{length-slots}
+use Rattle.token_store.proofs.Codec.{length-slots, length-pieces}
 
 -- the place of the first slot that passes
 abbrev pub place_of : (Slot → Bool) → List ℕ → ℕ
 place_of p b = index_where p (decode b).slots
 
--- what is answered of that place, or where there is none
-abbrev pub answer : {R : Type 0} → (ℕ → R) → R → ℕ → R
-answer at none i = cond (ltb i slot_count) (at i) none
+-- ---- a search of the slots' bytes
 
--- ---- a scan: no slot before i passes
+-- a test of a slot, as one of its bytes
+abbrev pub read_by : (Slot → Bool) → List ℕ → Bool
+read_by p l = p (decode_slot l)
 
-abbrev pub Scanned : (Slot → Bool) → List ℕ → ℕ → Type 0
-Scanned p b i = (i ≤ slot_count) × (i ≤ place_of p b)
+module _ (p : Slot → Bool) where
+  place-in : (pieces : List (List ℕ)) → index_where p (map decode_slot pieces) ≡ position_or_len (read_by p) pieces
+  unfolding index_where
+  place-in = is_position_or_len (λ ls. index_where p (map decode_slot ls)) (read_by p) refl (λ l ls. ap (λ (n : ℕ). cond (read_by p l) 0 n) (omega arith))
 
-module _ (p : Slot → Bool) (b : List ℕ) (i : ℕ) (scanned : Scanned p b i) where
-  within : i < slot_count → i < length (decode b).slots
-  within h = omega (arith, length-slots b)
-
-  pub slot_next : i < slot_count → p (slot_of (decode b) i) ≡ false → Scanned p b (i + 1)
-  slot_next h e = (omega arith, scan-next p free_slot (decode b).slots i (within h) scanned.1 e)
-
-  module _ {R : Type 0} (at : ℕ → R) (none : R) where
-    pub slot-stop : i < slot_count → p (slot_of (decode b) i) ≡ true → at i ≡ answer at none (place_of p b)
-    slot-stop h e = sym (rw (scan-stop p free_slot (decode b).slots i (within h) scanned.1 e, lt-ltb i slot_count h))
-
-    pub slot-end : slot_count ≤ i → none ≡ answer at none (place_of p b)
-    slot-end h = sym (rw (le-ltb (place_of p b) slot_count (omega arith)))
-
--- whether any slot passes is such an answer, and whether each does
-module _ (p : Slot → Bool) (b : List ℕ) where
-  any-test : ltb (place_of p b) slot_count ≡ any p (decode b).slots
-  any-test = ap (ltb (place_of p b)) (sym (length-slots b)) ∙ sym (any-index p (decode b).slots)
-
-  pub any-answer : answer (λ i. true) false (place_of p b) ≡ any p (decode b).slots
-  any-answer = by (ltb (place_of p b) slot_count) ∙ any-test
+  count-in : (pieces : List (List ℕ)) → count p (map decode_slot pieces) ≡ count_by (read_by p) pieces
+  unfolding count
+  count-in = is_count_by (λ ls. count p (map decode_slot ls)) (read_by p) refl (λ l ls. one (read_by p l) (count p (map decode_slot ls)))
     where
-      by : (q : Bool) → cond q true false ≡ q
-      by true = refl
-      by false = refl
+      one : (q : Bool) (n : ℕ) → bit q + n ≡ cond q (1 + n) n
+      one true n = refl
+      one false n = omega arith
 
-pub every-answer : (p : Slot → Bool) (b : List ℕ) → answer (λ i. false) true (place_of (λ s. not (p s)) b) ≡ every p (decode b).slots
-every-answer p b =
-    by (ltb (place_of (λ s. not (p s)) b) slot_count) ∙ ap not (any-test (λ s. not (p s)) b) ∙ sym (every-none-fails p (decode b).slots)
-  where
-    by : (q : Bool) → cond q false true ≡ not q
-    by true = refl
-    by false = refl
+  any-in : (pieces : List (List ℕ)) → list_any (read_by p) pieces ≡ any p (map decode_slot pieces)
+  unfolding any
+  any-in [] = refl
+  any-in (l ∷ ls) = ap (λ r. read_by p l || r) (any-in ls)
+
+  every-in : (pieces : List (List ℕ)) → list_all (read_by p) pieces ≡ every p (map decode_slot pieces)
+  unfolding every
+  every-in [] = refl
+  every-in (l ∷ ls) = ap (λ r. read_by p l && r) (every-in ls)
+
+  module _ (b : List ℕ) (pieces : List (List ℕ)) (said : map decode_slot pieces ≡ (decode b).slots) where
+    -- the first that passes
+    pub first-slot : let i = position_or_len (read_by p) pieces in cond (ltb i (length pieces)) (Some i) None ≡ found_at (place_of p b)
+    first-slot =
+        ap₂ (λ (i n : ℕ). cond (ltb i n) (Some i) None) (sym (place-in pieces) ∙ ap (index_where p) said) (length-pieces b pieces said)
+
+    -- whether one does, and whether all do
+    pub any-slot : list_any (read_by p) pieces ≡ any p (decode b).slots
+    any-slot = any-in pieces ∙ ap (any p) said
+
+    pub every-slot : list_all (read_by p) pieces ≡ every p (decode b).slots
+    every-slot = every-in pieces ∙ ap (every p) said
+
+    -- whether n do
+    pub slots-enough : (n : ℕ) → eqb (length (take n (filter (read_by p) pieces))) n ≡ leb n (count p (decode b).slots)
+    slots-enough n = rw (length-take, length-filter, ← count-in pieces, said) (by (count p (decode b).slots) (dec_lt (count p (decode b).slots) n))
+      where
+        by : (m : ℕ) → Dec (m < n) → eqb (min n m) n ≡ leb n m
+        by m (yes l) = ne_eqb (min n m) n (λ z. omega arith) ∙ sym (lt-leb n m l)
+        by m (no l) = eq-eqb (min n m) n (omega arith) ∙ sym (le-leb n m (omega arith))
 
 -- ---- what an answer says
 
@@ -82,7 +92,7 @@ pub record First (p : Slot → Bool) (slots : List Slot) (i : ℕ) : Type 0 wher
   pub replaced : (s : Slot) → replace_first p s slots ≡ set slots i s
 
 -- no slot passes
-pub record None (p : Slot → Bool) (slots : List Slot) : Type 0 where
+pub record NoSlot (p : Slot → Bool) (slots : List Slot) : Type 0 where
   pub none : any p slots ≡ false
   pub taken : first_or free_slot p slots ≡ free_slot
   pub kept : (s : Slot) → replace_first p s slots ≡ slots
@@ -100,7 +110,7 @@ module _ (p : Slot → Bool) (b : List ℕ) where
         replaced = λ s. rw (← e) (replace_first-index p s slots);
       }
 
-  nowhere : slot_count ≤ place_of p b → None p (decode b).slots
+  nowhere : slot_count ≤ place_of p b → NoSlot p (decode b).slots
   nowhere h =
       let slots = (decode b).slots in
       let past : length slots ≤ place_of p b = omega (arith, length-slots b) in
@@ -110,30 +120,16 @@ module _ (p : Slot → Bool) (b : List ℕ) where
         kept = λ s. replace_first-index p s slots ∙ set_out slots (place_of p b) s past;
       }
 
-  module _ {R : Type 0} (at : ℕ → R) (none : R) where
-    hit : (i : ℕ) → (none ≡ at i → ⊥) → (at (place_of p b) ≡ at i → place_of p b ≡ i) → answer at none (place_of p b) ≡ at i
-        → First p (decode b).slots i
-    hit i apart alike e = by (ltb (place_of p b) slot_count) refl e
-      where
-        by : (q : Bool) → ltb (place_of p b) slot_count ≡ q → cond q (at (place_of p b)) none ≡ at i → First p (decode b).slots i
-        by true t e = first i (ltb-true (place_of p b) slot_count t) (alike e)
-        by false t e = absurd (apart e)
+  pub found_first : (i : ℕ) → found_at (place_of p b) ≡ Some i → First p (decode b).slots i
+  found_first i e = by (ltb (place_of p b) slot_count) refl e
+    where
+      by : (q : Bool) → ltb (place_of p b) slot_count ≡ q → cond q (Some (place_of p b)) None ≡ Some i → First p (decode b).slots i
+      by true t e = first i (ltb-true (place_of p b) slot_count t) (cc)
+      by false t e = absurd (cc)
 
-    miss : (at (place_of p b) ≡ none → ⊥) → answer at none (place_of p b) ≡ none → None p (decode b).slots
-    miss apart e = by (ltb (place_of p b) slot_count) refl e
-      where
-        by : (q : Bool) → ltb (place_of p b) slot_count ≡ q → cond q (at (place_of p b)) none ≡ none → None p (decode b).slots
-        by true t e = absurd (apart e)
-        by false t e = nowhere (ltb-false (place_of p b) slot_count t)
-
-  pub found_first : (i : ℕ) → found_at (place_of p b) ≡ Found-as-At i → First p (decode b).slots i
-  found_first i = hit Found-as-At Nothing i (λ e. let z : ◌≡◌ {A = ℕ} 0 1 = cc in omega arith) (λ e. cc)
-
-  pub found_none : found_at (place_of p b) ≡ Nothing → None p (decode b).slots
-  found_none = miss Found-as-At Nothing (λ e. let z : ◌≡◌ {A = ℕ} 0 1 = cc in omega arith)
-
-  pub vacancy-first : (i : ℕ) → vacancy_at (place_of p b) ≡ Vacancy-as-At i → First p (decode b).slots i
-  vacancy-first i = hit Vacancy-as-At Full i (λ e. let z : ◌≡◌ {A = ℕ} 0 1 = cc in omega arith) (λ e. cc)
-
-  pub vacancy-none : vacancy_at (place_of p b) ≡ Full → None p (decode b).slots
-  vacancy-none = miss Vacancy-as-At Full (λ e. let z : ◌≡◌ {A = ℕ} 0 1 = cc in omega arith)
+  pub found_none : found_at (place_of p b) ≡ None → NoSlot p (decode b).slots
+  found_none e = by (ltb (place_of p b) slot_count) refl e
+    where
+      by : (q : Bool) → ltb (place_of p b) slot_count ≡ q → cond q (Some (place_of p b)) None ≡ None → NoSlot p (decode b).slots
+      by true t e = absurd (cc)
+      by false t e = nowhere (ltb-false (place_of p b) slot_count t)

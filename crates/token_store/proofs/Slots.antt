@@ -10,22 +10,21 @@ use mathlib.Core.Bool.{Bool, true, false, not, ◌||◌}
 use mathlib.Core.Logic.{◌⊎◌, inl, inr, ⊎_elim}
 use mathlib.Core.List.{List, [], ◌∷◌, ◌++◌, map, append_assoc, append-nil}
 use Prim.Native.Nat.{ℕ, suc, ◌+◌, ◌^◌, ◌≤◌, ◌<◌}
-use native.Mathlib.Nat.{add-zero}
 use native.Mathlib.Omega.{arith}
 use lib.Dec.{lit<, eqb, leb}
 use lib.ListN.{length, drop, get_or, set, replicate, length-append, drop_of_length-le}
-use lib.Seq.{drop-cons, take_all, sets}
+use lib.Seq.{drop-cons, sets}
 use borrow.Author.Tests.{eqb-true, ne_eqb, leb-true}
 use Rattle.octets.specs.Lists.{part, Bytes, every, same}
 use Rattle.octets.specs.BigEndian.{big_endian, big_endian_from, big_endian_bytes}
 use Rattle.octets.proofs.Booleans.{and_left, and_right, or_cases}
-use Rattle.octets.proofs.Lists.{take-bytes, drop-bytes, length_part, part-part}
+use Rattle.octets.proofs.Lists.{take-bytes, drop-bytes, length_part}
 use Rattle.octets.proofs.Searches.{every-each}
 use Rattle.octets.proofs.Stores.{sets-append}
 use Rattle.octets.proofs.BigEndian.{be-one, be-bytes, bytes-be, be-bound, be-bytes-one, length-be-bytes}
-use Rattle.encoding.specs.declared.HandleText.{HandleText}
+use Rattle.std.specs.Prelude.{Some}
 use Rattle.token_store.specs.Layout.{latest_time, handle_size, farm_size, expiry_size, link_size, field_sizes, slot_size, at_handle, at_client, at_farm, at_scope, at_expiry, at_link}
-use Rattle.token_store.specs.Store.{SlotFits, cut, concat, fields_of, of_fields, encode_slot, decode_slot, free_slot, kind_code, kind_bound_code, kind_access, kind_refresh, kind_challenged_code, kind_bound_challenged_code, is_challenged, kind_free, is_used, lifetimes, lifetime_of, is_live, holds, is_sought, sought_key, shows}
+use Rattle.token_store.specs.Store.{SlotFits, cut, concat, fields_of, of_fields, encode_slot, decode_slot, free_slot, kind_code, kind_bound_code, kind_access, kind_refresh, kind_challenged_code, kind_bound_challenged_code, is_challenged, kind_free, is_used, lifetimes, lifetime_of, is_live, holds, is_sought, sought_key}
 use Rattle.token_store.specs.declared.Slot.{Slot}
 use Rattle.token_store.specs.declared.Sought.{Sought}
 use Rattle.token_store.specs.declared.Sought.TheVariants.{Code, Spent, Access, Refresh, Token}
@@ -79,40 +78,30 @@ slot-fields l = ap of_fields (cut-fields l)
 byte-in : (l : List ℕ) (k : ℕ) → k < length l → big_endian (part l k 1) ≡ get_or l k 0
 byte-in l k h = rw (drop-cons l k 0 h) (be-one (get_or l k 0))
 
--- the slot whose bytes start at `at`
-abbrev pub slot_in : List ℕ → ℕ → Slot
-slot_in b at = record {
-  kind = get_or b at 0;
-  handle = part b (at + at_handle) handle_size;
-  client = get_or b (at + at_client) 0;
-  farm = big_endian (part b (at + at_farm) farm_size);
-  scope = get_or b (at + at_scope) 0;
-  expiry = big_endian (part b (at + at_expiry) expiry_size);
-  link = part b (at + at_link) link_size;
+-- the slot in these bytes, each field by its place
+abbrev pub slot_in : List ℕ → Slot
+slot_in l = record {
+  kind = get_or l 0 0;
+  handle = part l at_handle handle_size;
+  client = get_or l at_client 0;
+  farm = big_endian (part l at_farm farm_size);
+  scope = get_or l at_scope 0;
+  expiry = big_endian (part l at_expiry expiry_size);
+  link = part l at_link link_size;
 }
 
-pub slot-in : (b : List ℕ) (at : ℕ) → at + slot_size ≤ length b → decode_slot (part b at slot_size) ≡ slot_in b at
-slot-in b at fits =
-    slot-fields (part b at slot_size)
+pub slot-in : (l : List ℕ) → length l ≡ slot_size → decode_slot l ≡ slot_in l
+slot-in l size =
+    slot-fields l
     ∙ λ j. record {
-      kind = (rw add-zero at (byte 0 (omega arith))) j;
-      handle = field at_handle handle_size (omega arith) j;
-      client = byte at_client (omega arith) j;
-      farm = big_endian (field at_farm farm_size (omega arith) j);
-      scope = byte at_scope (omega arith) j;
-      expiry = big_endian (field at_expiry expiry_size (omega arith) j);
-      link = field at_link link_size (omega arith) j;
+      kind = byte-in l 0 (omega arith) j;
+      handle = part l at_handle handle_size;
+      client = byte-in l at_client (omega arith) j;
+      farm = big_endian (part l at_farm farm_size);
+      scope = byte-in l at_scope (omega arith) j;
+      expiry = big_endian (part l at_expiry expiry_size);
+      link = part l at_link link_size;
     }
-  where
-    field : (k n : ℕ) → k + n ≤ slot_size → part (part b at slot_size) k n ≡ part b (at + k) n
-    field k n h = part-part b at slot_size k n h
-
-    byte : (k : ℕ) → k + 1 ≤ slot_size → big_endian (part (part b at slot_size) k 1) ≡ get_or b (at + k) 0
-    byte k h = ap big_endian (field k 1 h) ∙ byte-in b (at + k) (omega arith)
-
--- in the bytes of a slot alone
-pub slot-alone : (l : List ℕ) → length l ≡ slot_size → decode_slot l ≡ slot_in l 0
-slot-alone l size = ap decode_slot (sym (take_all slot_size l (omega arith))) ∙ slot-in l 0 (omega arith)
 
 -- ---- writing what was read
 
@@ -257,10 +246,9 @@ sought-used Refresh s e = used s.kind 3 e
 sought-used Token s e = ap not (either-fails (λ k. eqb k kind_free) kind_access kind_refresh refl refl s.kind e)
 
 -- a slot that a look-up takes is in use and has the handle presented
-pub key-holds : (q : Sought) (p : HandleText) (s : Slot) → sought_key q p s ≡ true → holds p.bytes s ≡ true
-key-holds q p s e =
-    let shown = and_right (is_sought q s) (shows p s) e in
-    rw (sought-used q s (and_left (is_sought q s) (shows p s) e)) (and_right p.valid (same p.bytes s.handle) shown)
+pub key-holds : (q : Sought) (h : List ℕ) (s : Slot) → sought_key q (Some h) s ≡ true → holds h s ≡ true
+key-holds q h s e =
+    rw (sought-used q s (and_left (is_sought q s) (same h s.handle) e)) (and_right (is_sought q s) (same h s.handle) e)
 
 -- ---- lifetimes
 

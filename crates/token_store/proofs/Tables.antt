@@ -1,6 +1,6 @@
 -- Laws of the list functions by which a store is read and written (specs/Store.antt).
 --
--- In order: tables, `tabulate n f`: length, elements, equal tables, one entry changed, a map over one; pieces: cutting what
+-- In order: tables, `tabulate n f`: length, elements, equal tables, one entry changed, a map over one, the chunks of a list; pieces: cutting what
 -- was joined and joining what was cut; pieces of one width: their parts and their length; lists of one element.
 --
 -- Not here: parts of lists in general (octets' `Lists`).
@@ -14,6 +14,7 @@ use native.Mathlib.Decide.{ℕ_discrete}
 use native.Mathlib.Omega.{arith}
 use lib.ListN.{length, take, drop, get_or, set, replicate, length-append, length-set, take-append-drop, get_or-append}
 use lib.Seq.{drop-drop, take-add, take-append_seam, drop-append_seam, take_at, drop-append-add, get_or_at, get_or-set_same, get_or-set_other, ext_get_or}
+use Rattle.std.specs.Simd.{first_chunks}
 use Rattle.octets.specs.Lists.{part}
 use Rattle.token_store.specs.Store.{cut, concat, tabulate}
 
@@ -56,6 +57,21 @@ pub map-tabulate : {A B : Type 0} (g : A → B) (f : ℕ → A) (n : ℕ) → ma
 unfolding tabulate
 map-tabulate g f zero = refl
 map-tabulate g f (suc n) = map-append g (tabulate n f) (f n ∷ []) ∙ rw (map-tabulate g f n)
+
+-- the chunks of a list are the table of its parts of that width
+chunk-at : {A : Type 0} (w n : ℕ) (l : List A) (i : ℕ) → i < n → take w (drop (i * w) l) ≡ get_or (first_chunks w n l) i []
+chunk-at w zero l i h = absurd (not-suc-le-zero h)
+chunk-at w (suc n) l zero h = rw zero-mul
+chunk-at w (suc n) l (suc i) h =
+    let e : suc i * w ≡ w + i * w = omega (arith, suc-mul i w) in
+    rw e (ap (λ r. take w r) (sym (drop-drop (i * w) w l)) ∙ chunk-at w n (drop w l) i (le_of_suc-le-suc h))
+
+length-chunks : {A : Type 0} (w n : ℕ) (l : List A) → length (first_chunks w n l) ≡ n
+length-chunks w zero l = refl
+length-chunks w (suc n) l = ap (λ (k : ℕ). suc k) (length-chunks w n (drop w l))
+
+pub chunks-table : (w n : ℕ) (l : List ℕ) → first_chunks w n l ≡ tabulate n (λ i. part l (i * w) w)
+chunks-table w n l = sym (tabulate-list (λ i. part l (i * w) w) [] n (first_chunks w n l) (length-chunks w n l) (chunk-at w n l))
 
 -- ---- pieces
 

@@ -1,16 +1,12 @@
 -- A store as the latest time seen and a list of slots: what a slot is, the tests of it, and how a store's bytes are
 -- read and written. A store is document 01's ledger, and its time the mark.
-use Rattle.std.specs.Prelude.{ℕ, zero, suc, ◌-◌, ◌^◌, ◌<◌, max, ◌≡◌, Bool, cond, not, ◌&&◌, ◌||◌, List, [], ◌∷◌, ◌++◌, map, eqb, ltb, length, take, drop, get_or, set, replicate}
+use Rattle.std.specs.Prelude.{ℕ, zero, suc, ◌-◌, ◌^◌, ◌<◌, max, ◌≡◌, Bool, cond, not, ◌&&◌, ◌||◌, List, [], ◌∷◌, ◌++◌, map, eqb, ltb, length, take, drop, get_or, set, replicate, Option, Some, None}
 use Rattle.octets.specs.Lists.{part, same}
 use Rattle.octets.specs.BigEndian.{big_endian, big_endian_bytes}
-use Rattle.encoding.specs.declared.HandleText.{HandleText}
+use Rattle.encoding.specs.Hex.{presents}
 use Rattle.token_store.specs.Layout.{time_size, slot_count, handle_size, farm_size, expiry_size, link_size, field_sizes, slot_size, slot_start}
 use Rattle.octets.specs.Search.{replace_first, replace_all}
 use Rattle.token_store.specs.declared.Slot.{Slot}
-use Rattle.token_store.specs.declared.Found.{Found}
-use Rattle.token_store.specs.declared.Found.TheVariants.{At as Found-as-At, Nothing}
-use Rattle.token_store.specs.declared.Vacancy.{Vacancy}
-use Rattle.token_store.specs.declared.Vacancy.TheVariants.{At as Vacancy-as-At, Full}
 use Rattle.token_store.specs.declared.Sought.{Sought}
 use Rattle.token_store.specs.declared.Sought.TheVariants.{Code, Spent, Access, Refresh, Token}
 
@@ -143,10 +139,10 @@ abbrev pub holds : List ℕ → Slot → Bool
 holds h s = is_used s && same h s.handle
 
 -- the slot has the handle that was presented: "any other text matches no slot"
-abbrev pub shows : HandleText → Slot → Bool
-shows p s = p.valid && same p.bytes s.handle
+abbrev pub shows : Option (List ℕ) → Slot → Bool
+shows p s = presents p s.handle
 
-abbrev pub sought_key : Sought → HandleText → Slot → Bool
+abbrev pub sought_key : Sought → Option (List ℕ) → Slot → Bool
 sought_key q p s = is_sought q s && shows p s
 
 -- a token of a kind that is sought, which came from the code of this handle
@@ -157,13 +153,9 @@ comes_from q handle s = is_sought q s && same handle (origin_of s)
 abbrev pub without_tokens : Sought → List ℕ → List Slot → List Slot
 without_tokens q origin slots = replace_all free_slot (comes_from q origin) slots
 
--- ---- what a search of the slots gives, by the place of the first that passes
-
-abbrev pub found_at : ℕ → Found
-found_at i = cond (ltb i slot_count) (Found-as-At i) Nothing
-
-abbrev pub vacancy_at : ℕ → Vacancy
-vacancy_at i = cond (ltb i slot_count) (Vacancy-as-At i) Full
+-- what a search of the slots gives, by the place of the first that passes
+abbrev pub found_at : ℕ → Option ℕ
+found_at i = cond (ltb i slot_count) (Some i) None
 
 -- ---- one slot of a store, and the store with another slot, other slots or another time
 

@@ -1,10 +1,15 @@
-// What stands in slot i: a field of it, a test of it, or all of it.
-ghost use Rattle.std.specs.Prelude.{◌≡◌, ◌+◌, ◌<◌, ◌≤◌, length};
-ghost use Rattle.octets.specs.Lists.{part, same};
-ghost use Rattle.token_store.specs.Layout.{store_size, slot_count, handle_size, link_size, slot_start};
-ghost use Rattle.token_store.specs.Store.{decode, slot_of, is_token_kind, is_challenged_kind, is_live, link_to, origin_of};
+// The bytes of a store and of a slot in it: where they lie, a field of a slot, and the slot itself.
+ghost use Rattle.std.specs.Prelude.{◌≡◌, ◌<◌, length, map};
+ghost use Rattle.token_store.specs.Layout.{slot_count, slot_start};
+ghost use Rattle.token_store.specs.Store.{SlotFits, decode, slot_of, encode_slot, decode_slot, is_token_kind, is_challenged_kind, is_live, link_to, origin_of};
 
 use crate::{Slot, layout};
+
+// The bytes of a store: what the type says of them is their number alone, and `fit` judges them.
+pub type StoreBytes = [u8; layout::STORE_SIZE];
+
+// The bytes of a slot.
+pub(crate) type SlotBytes = [u8; layout::SLOT_SIZE];
 
 // Where slot i starts.
 pub(crate) fn slot_start(i: usize) -> usize
@@ -14,30 +19,39 @@ pub(crate) fn slot_start(i: usize) -> usize
     layout::TIME_SIZE + i * layout::SLOT_SIZE
 }
 
-// ---- single fields: a scan of the store looks at no others
-
-pub(crate) fn kind_of(store: &[u8], i: usize) -> u8
-    requires { (length store.now ≡ store_size) × (i < slot_count) }
-    ensures { result ≡ (slot_of (decode store.now) i).kind }
+// The slots of a store, which stand behind its time.
+pub(crate) fn slots(store: &StoreBytes) -> &[SlotBytes]
+    ensures count { length result.now ≡ slot_count }
+    ensures slots { map decode_slot result.now ≡ (decode store.now).slots }
 {
-    store[slot_start(i)]
+    store[layout::TIME_SIZE..].as_chunks().0
 }
 
-fn expiry_of(store: &[u8], i: usize) -> u64
-    requires { (length store.now ≡ store_size) × (i < slot_count) }
-    ensures { result ≡ (slot_of (decode store.now) i).expiry }
+// ---- single fields: a scan of the slots looks at no others
+
+pub(crate) fn kind_of(slot: &SlotBytes) -> u8
+    ensures { result ≡ (decode_slot slot.now).kind }
 {
-    octets::read_be64(store, slot_start(i) + layout::AT_EXPIRY)
+    slot[0]
 }
 
-// Whether slot i has this handle, in use or not.
-pub(crate) fn has_handle(store: &[u8], i: usize, handle: &[u8]) -> bool
-    requires { (length store.now ≡ store_size) × (i < slot_count) }
-    ensures { result ≡ same handle.now (slot_of (decode store.now) i).handle }
+pub(crate) fn handle_of(slot: &SlotBytes) -> &[u8]
+    ensures { result.now ≡ (decode_slot slot.now).handle }
 {
-    let at = slot_start(i) + layout::AT_HANDLE;
-    let end = at + layout::HANDLE_SIZE;
-    octets::equal(handle, &store[at..end])
+    &slot[layout::AT_HANDLE..layout::AT_HANDLE + layout::HANDLE_SIZE]
+}
+
+fn expiry_of(slot: &SlotBytes) -> u64
+    ensures { result ≡ (decode_slot slot.now).expiry }
+{
+    octets::read_be64(slot, layout::AT_EXPIRY)
+}
+
+// The front of the link: of a token, the handle of the code that it came from.
+pub(crate) fn origin_of(slot: &SlotBytes) -> &[u8]
+    ensures { result.now ≡ origin_of (decode_slot slot.now) }
+{
+    &slot[layout::AT_LINK..layout::AT_LINK + layout::HANDLE_SIZE]
 }
 
 // Whether a kind is that of an access or a refresh token.
@@ -54,35 +68,53 @@ pub(crate) fn is_challenged_kind(kind: u8) -> bool
     (kind == layout::KIND_CHALLENGED_CODE) | (kind == layout::KIND_BOUND_CHALLENGED_CODE)
 }
 
-// Whether the link of slot i begins with this handle: of a token, whether it came from the code of this handle.
-pub(crate) fn has_origin(store: &[u8], i: usize, handle: &[u8]) -> bool
-    requires { (length store.now ≡ store_size) × (i < slot_count) }
-    ensures { result ≡ same handle.now (origin_of (slot_of (decode store.now) i)) }
+// Whether a slot is in use and has not run out at t.
+pub(crate) fn is_live(slot: &SlotBytes, t: u64) -> bool
+    ensures { result ≡ is_live t (decode_slot slot.now) }
 {
-    let at = slot_start(i) + layout::AT_LINK;
-    let end = at + layout::HANDLE_SIZE;
-    octets::equal(handle, &store[at..end])
-}
-
-// Whether slot i is in use and has not run out at t.
-pub(crate) fn is_live(store: &[u8], i: usize, t: u64) -> bool
-    requires { (length store.now ≡ store_size) × (i < slot_count) }
-    ensures { result ≡ is_live t (slot_of (decode store.now) i) }
-{
-    (kind_of(store, i) != layout::KIND_FREE) & (t < expiry_of(store, i))
+    (kind_of(slot) != layout::KIND_FREE) & (t < expiry_of(slot))
 }
 
 // ---- the whole slot
 
-// The handle in the bytes from `at` on.
-pub fn handle_at(b: &[u8], at: usize) -> [u8; layout::HANDLE_SIZE]
-    requires { at + handle_size ≤ length b.now }
-    ensures { result ≡ part b.now at handle_size }
+impl Slot {
+    // The slot that these bytes are read as.
+    pub(crate) fn from_bytes(slot: &SlotBytes) -> Slot
+        ensures { result ≡ decode_slot slot.now }
+    {
+        Slot {
+            kind: kind_of(slot),
+            handle: octets::bytes_at(slot, layout::AT_HANDLE),
+            client: slot[layout::AT_CLIENT],
+            farm: octets::read_be32(slot, layout::AT_FARM),
+            scope: slot[layout::AT_SCOPE],
+            expiry: expiry_of(slot),
+            link: octets::bytes_at(slot, layout::AT_LINK),
+        }
+    }
+
+    // The bytes of the slot, whose fields have the widths of their types.
+    pub(crate) fn to_bytes(self) -> SlotBytes
+        ensures { (result ≡ encode_slot self) × SlotFits self }
+    {
+        let mut b = [0u8; layout::SLOT_SIZE];
+        b[0] = self.kind;
+        octets::copy_at(&mut b, layout::AT_HANDLE, &self.handle);
+        b[layout::AT_CLIENT] = self.client;
+        octets::write_be(&mut b, layout::AT_FARM, layout::FARM_SIZE, self.farm as u64);
+        b[layout::AT_SCOPE] = self.scope;
+        octets::write_be(&mut b, layout::AT_EXPIRY, layout::EXPIRY_SIZE, self.expiry);
+        octets::copy_at(&mut b, layout::AT_LINK, &self.link);
+        b
+    }
+}
+
+// What slot i holds.
+pub fn slot_at(store: &StoreBytes, i: usize) -> Slot
+    requires { i < slot_count }
+    ensures { result ≡ slot_of (decode store.now) i }
 {
-    let mut handle = [0u8; layout::HANDLE_SIZE];
-    let end = at + layout::HANDLE_SIZE;
-    octets::copy_at(&mut handle, 0, &b[at..end]);
-    handle
+    Slot::from_bytes(&slots(store)[i])
 }
 
 // The link of a token that came from the code of this handle.
@@ -90,36 +122,6 @@ pub fn link_to(origin: [u8; layout::HANDLE_SIZE]) -> [u8; layout::LINK_SIZE]
     ensures { result ≡ link_to origin }
 {
     let mut link = [0u8; layout::LINK_SIZE];
-    let handle = origin;
-    octets::copy_at(&mut link, 0, &handle);
+    octets::copy_at(&mut link, 0, &origin);
     link
-}
-
-// The link in the bytes from `at` on.
-fn link_at(b: &[u8], at: usize) -> [u8; layout::LINK_SIZE]
-    requires { at + link_size ≤ length b.now }
-    ensures { result ≡ part b.now at link_size }
-{
-    let mut link = [0u8; layout::LINK_SIZE];
-    let end = at + layout::LINK_SIZE;
-    octets::copy_at(&mut link, 0, &b[at..end]);
-    link
-}
-
-pub fn slot_at(store: &[u8], i: usize) -> Slot
-    requires { (length store.now ≡ store_size) × (i < slot_count) }
-    ensures { result ≡ slot_of (decode store.now) i }
-{
-    let at = slot_start(i);
-    let handle = handle_at(store, at + layout::AT_HANDLE);
-    let link = link_at(store, at + layout::AT_LINK);
-    Slot {
-        kind: store[at],
-        handle,
-        client: store[at + layout::AT_CLIENT],
-        farm: octets::read_be32(store, at + layout::AT_FARM),
-        scope: store[at + layout::AT_SCOPE],
-        expiry: octets::read_be64(store, at + layout::AT_EXPIRY),
-        link,
-    }
 }

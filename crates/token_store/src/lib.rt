@@ -1,7 +1,7 @@
 // token_store: the codes and tokens that were issued, and the latest time seen, in bytes that the caller lends.
 //
-// `fit` answers whether bytes are a store; every other function asks for bytes of the right length. Contracts speak of
-// the decoded store, whose slots are numbered from 0: no caller looks at a byte.
+// `fit` answers whether bytes are a store; every other function of a store takes `StoreBytes`, whose type says their number. Contracts
+// speak of the decoded store, whose slots are numbered from 0: no caller looks at a byte.
 #![tactic(auto)]
 
 ghost use Rattle.std.specs.Prelude.{◌≡◌};
@@ -15,7 +15,7 @@ mod time;
 mod write;
 
 use fields::is_challenged_kind;
-pub use fields::{handle_at, link_to, slot_at};
+pub use fields::{StoreBytes, link_to, slot_at};
 pub use fitness::fit;
 pub use search::{clashes, find, has_room};
 pub use time::{call_time, lifetime, set_time};
@@ -24,6 +24,7 @@ pub use write::{clear, clear_tokens, issue, put};
 // What a slot of the store holds.
 #[derive(Clone, Copy)]
 pub struct Slot {
+    // a number, since bytes of the right length are read as a store whatever their kinds: `fit` judges these
     pub kind: u8,
     pub handle: [u8; layout::HANDLE_SIZE],
     pub client: u8,
@@ -60,8 +61,7 @@ impl Slot {
     pub fn origin(self) -> [u8; layout::HANDLE_SIZE]
         ensures { result ≡ origin_of self }
     {
-        let link = self.link;
-        handle_at(&link, 0)
+        octets::bytes_at(&self.link, 0)
     }
 }
 
@@ -73,18 +73,4 @@ pub enum Sought {
     Access,
     Refresh,
     Token,
-}
-
-// What a look-up gives: a slot's number, or nothing.
-#[derive(Clone, Copy)]
-pub enum Found {
-    At(usize),
-    Nothing,
-}
-
-// Where there is room for one slot more: the number of a slot that is free or has run out, or nowhere.
-#[derive(Clone, Copy)]
-pub(crate) enum Vacancy {
-    At(usize),
-    Full,
 }

@@ -1,19 +1,20 @@
-// Scans of the store, each from the lowest slot on: look-ups, the first vacant slot, and whether there is room.
-ghost use Rattle.std.specs.Prelude.{◌≡◌, ◌<◌, length, leb};
-ghost use Rattle.token_store.specs.Layout.{store_size, slot_count};
+// Scans of the slots, each from the lowest on: look-ups, the first vacant slot, and whether there is room.
+ghost use Rattle.std.specs.Prelude.{◌≡◌, leb};
 ghost use Rattle.octets.specs.Search.{index_where, count, any};
-ghost use Rattle.token_store.specs.Store.{decode, slot_of, is_vacant, holds, is_sought, sought_key, comes_from, found_at, vacancy_at};
+ghost use Rattle.token_store.specs.Store.{decode, decode_slot, is_vacant, holds, is_sought, sought_key, comes_from, found_at};
 
-use crate::fields::{has_handle, has_origin, is_challenged_kind, is_live, is_token_kind, kind_of};
-use crate::{Found, Sought, Vacancy, layout};
-use encoding::HandleText;
+use crate::fields::{
+    SlotBytes, StoreBytes, handle_of, is_challenged_kind, is_live, is_token_kind, kind_of,
+    origin_of, slots,
+};
+use crate::{Sought, layout};
+use encoding::Handle;
 
-// Whether slot i is of a kind that is sought.
-fn is_sought(store: &[u8], i: usize, sought: Sought) -> bool
-    requires { (length store.now ≡ store_size) × (i < slot_count) }
-    ensures { result ≡ is_sought sought (slot_of (decode store.now) i) }
+// Whether a slot is of a kind that is sought.
+fn is_sought(slot: &SlotBytes, sought: Sought) -> bool
+    ensures { result ≡ is_sought sought (decode_slot slot.now) }
 {
-    let kind = kind_of(store, i);
+    let kind = kind_of(slot);
     match sought {
         Sought::Code => (kind == layout::KIND_CODE)
             | (kind == layout::KIND_BOUND_CODE)
@@ -25,89 +26,60 @@ fn is_sought(store: &[u8], i: usize, sought: Sought) -> bool
     }
 }
 
-// Whether slot i is of a kind that is sought and has the handle presented.
-fn matches(store: &[u8], i: usize, sought: Sought, presented: HandleText) -> bool
-    requires { (length store.now ≡ store_size) × (i < slot_count) }
-    ensures { result ≡ sought_key sought presented (slot_of (decode store.now) i) }
+// Whether a slot is of a kind that is sought and has the handle presented.
+fn matches(slot: &SlotBytes, sought: Sought, presented: Option<Handle>) -> bool
+    ensures { result ≡ sought_key sought presented (decode_slot slot.now) }
 {
-    if !is_sought(store, i, sought) {
+    if !is_sought(slot, sought) {
         return false;
     }
-    let handle = presented.bytes;
-    presented.valid & has_handle(store, i, &handle)
+    match presented {
+        Some(handle) => octets::equal(&handle, handle_of(slot)),
+        None => false,
+    }
 }
 
-// Whether slot i is a token of a kind that is sought and came from the code of this handle.
-pub(crate) fn comes_from(store: &[u8], i: usize, sought: Sought, handle: &[u8]) -> bool
-    requires { (length store.now ≡ store_size) × (i < slot_count) }
-    ensures { result ≡ comes_from sought handle.now (slot_of (decode store.now) i) }
+// Whether a slot is a token of a kind that is sought and came from the code of this handle.
+pub(crate) fn comes_from(slot: &SlotBytes, sought: Sought, handle: &[u8]) -> bool
+    ensures { result ≡ comes_from sought handle.now (decode_slot slot.now) }
 {
-    if !is_sought(store, i, sought) {
-        return false;
-    }
-    has_origin(store, i, handle)
+    is_sought(slot, sought) && octets::equal(handle, origin_of(slot))
 }
 
 // The lowest slot of a kind that is sought with the handle presented, run out or not.
-pub fn find(store: &[u8], sought: Sought, presented: HandleText) -> Found
-    requires { length store.now ≡ store_size }
+pub fn find(store: &StoreBytes, sought: Sought, presented: Option<Handle>) -> Option<usize>
     ensures { result ≡ found_at (index_where (sought_key sought presented) (decode store.now).slots) }
 {
-    for i in 0..layout::SLOT_COUNT {
-        if matches(store, i, sought, presented) {
-            return Found::At(i);
-        }
-    }
-    Found::Nothing
+    slots(store)
+        .iter()
+        .position(|slot| matches(slot, sought, presented))
 }
 
 // The lowest slot that is free or has run out at t.
-pub(crate) fn vacant(store: &[u8], t: u64) -> Vacancy
-    requires { length store.now ≡ store_size }
-    ensures { result ≡ vacancy_at (index_where (is_vacant t) (decode store.now).slots) }
+pub(crate) fn vacant(store: &StoreBytes, t: u64) -> Option<usize>
+    ensures { result ≡ found_at (index_where (is_vacant t) (decode store.now).slots) }
 {
-    for i in 0..layout::SLOT_COUNT {
-        if !is_live(store, i, t) {
-            return Vacancy::At(i);
-        }
-    }
-    Vacancy::Full
+    slots(store).iter().position(|slot| !is_live(slot, t))
 }
 
 // Whether at least n slots are free or have run out at t.
-pub fn has_room(store: &[u8], t: u64, n: usize) -> bool
-    requires { length store.now ≡ store_size }
+pub fn has_room(store: &StoreBytes, t: u64, n: usize) -> bool
     ensures { result ≡ leb n (count (is_vacant t) (decode store.now).slots) }
 {
-    let mut needed = n;
-    for i in 0..layout::SLOT_COUNT {
-        if needed == 0 {
-            return true;
-        }
-        if !is_live(store, i, t) {
-            needed -= 1;
-        }
-    }
-    needed == 0
+    let vacant = slots(store).iter().filter(|slot| !is_live(slot, t));
+    vacant.take(n).count() == n
 }
 
-// Whether slot i is in use, run out or not, and has this handle.
-fn holds_handle(store: &[u8], i: usize, handle: &[u8]) -> bool
-    requires { (length store.now ≡ store_size) × (i < slot_count) }
-    ensures { result ≡ holds handle.now (slot_of (decode store.now) i) }
+// Whether a slot is in use, run out or not, and has this handle.
+fn holds(slot: &SlotBytes, handle: &[u8]) -> bool
+    ensures { result ≡ holds handle.now (decode_slot slot.now) }
 {
-    (kind_of(store, i) != layout::KIND_FREE) & has_handle(store, i, handle)
+    (kind_of(slot) != layout::KIND_FREE) && octets::equal(handle, handle_of(slot))
 }
 
 // Whether a slot in use, run out or not, has this handle.
-pub fn clashes(store: &[u8], handle: &[u8]) -> bool
-    requires { length store.now ≡ store_size }
+pub fn clashes(store: &StoreBytes, handle: &[u8]) -> bool
     ensures { result ≡ any (holds handle.now) (decode store.now).slots }
 {
-    for i in 0..layout::SLOT_COUNT {
-        if holds_handle(store, i, handle) {
-            return true;
-        }
-    }
-    false
+    slots(store).iter().any(|slot| holds(slot, handle))
 }

@@ -26,14 +26,14 @@ ghost use Rattle.std.specs.Prelude.{◌≤◌, length, IfOk};
 
 use authorization_server::{CheckReply, TokenReply};
 use client_registry::layout;
-use encoding::{Base64Kind, Decoded};
-use form::{Count, Outcome, Place};
+use encoding::Base64Kind;
+use form::{Count, Place};
 use protocol::limits;
-use scope::{Scope, ScopeValue};
+use scope::Scope;
 use std::io;
 use std::io::Read;
 
-// The most bytes of a text that is decoded or written.
+// The most bytes of a text that is decoded or written. Of a longer one nothing is said, so that buffers of fixed size serve.
 const MOST_TEXT: usize = 512;
 
 // The most letters of a message that is written so.
@@ -96,19 +96,12 @@ fn rest(line: &[u8]) -> &[u8] {
 
 // The decimal number that a text begins with.
 fn number(text: &[u8]) -> u64 {
-    let mut n: u64 = 0;
-    for i in 0..text.len() {
-        let c = text[i];
-        if c < b'0' {
+    let mut n = 0;
+    for c in text {
+        if !c.is_ascii_digit() || MOST_NUMBER < n {
             return n;
         }
-        if b'9' < c {
-            return n;
-        }
-        if MOST_NUMBER < n {
-            return n;
-        }
-        n = n * 10 + (c - b'0') as u64;
+        n = n * 10 + u64::from(*c - b'0');
     }
     n
 }
@@ -116,21 +109,20 @@ fn number(text: &[u8]) -> u64 {
 // Writes the bytes that a text's hex digits stand for to the front of `out`, as many as it has room for, and gives their
 // number.
 fn from_hex(text: &[u8], out: &mut [u8]) -> usize {
-    for n in 0..out.len() {
-        if text.len() / 2 <= n {
+    let (pairs, _) = text.as_chunks::<2>();
+    for (n, &[high, low]) in pairs.iter().enumerate() {
+        if out.len() <= n {
             return n;
         }
-        let high = encoding::hex_value(text[2 * n], true);
-        let low = encoding::hex_value(text[2 * n + 1], true);
-        if 15 < high {
+        let (Some(high), Some(low)) = (
+            encoding::hex_value(high, true),
+            encoding::hex_value(low, true),
+        ) else {
             return n;
-        }
-        if 15 < low {
-            return n;
-        }
-        out[n] = high * 16 + low;
+        };
+        out[n] = high << 4 | low;
     }
-    out.len()
+    pairs.len()
 }
 
 // ---- texts
@@ -141,20 +133,19 @@ fn base64(rt: &impl Print, text: &[u8]) -> io::Result<()> {
         return Ok(());
     }
     match encoding::decode_base64(Base64Kind::STANDARD, text, &mut out) {
-        Decoded::Length(n) => found(rt, first(&out, n)),
-        Decoded::Malformed => found(rt, b"refused"),
+        Some(n) => found(rt, first(&out, n)),
+        None => found(rt, b"refused"),
     }
 }
 
 fn handle(rt: &impl Print, text: &[u8]) -> io::Result<()> {
-    let h = encoding::read_handle(text);
-    if h.valid {
-        found(rt, b"a handle")
-    } else {
-        found(rt, b"no handle")
+    match encoding::read_handle(text) {
+        Some(_) => found(rt, b"a handle"),
+        None => found(rt, b"no handle"),
     }
 }
 
+// Like `written` but for what is written: a function that takes the writer would take its `requires` too.
 fn digits(rt: &impl Print, bytes: &[u8]) -> io::Result<()> {
     let mut out = [0u8; 2 * MOST_TEXT];
     if MOST_TEXT < bytes.len() {
@@ -196,22 +187,26 @@ fn letters(rt: &impl Print, count: &[u8]) -> io::Result<()> {
 }
 
 fn url_digest(rt: &impl Print, text: &[u8]) -> io::Result<()> {
-    let d = encoding::read_digest(text);
-    let bytes = d.bytes;
-    if d.valid {
-        digits(rt, &bytes)
-    } else {
-        found(rt, b"refused")
+    match encoding::read_digest(text) {
+        Some(digest) => digits(rt, &digest),
+        None => found(rt, b"refused"),
     }
 }
 
-fn decoded(rt: &impl Print, value: &[u8]) -> io::Result<()> {
+// What is done with the text that a value decodes to.
+fn with_decoded<F: FnOnce(&[u8]) -> io::Result<()>>(value: &[u8], then: F) -> io::Result<()>
+    requires { F.IsAlwaysCallable then }
+{
     let mut out = [0u8; MOST_TEXT];
     if MOST_TEXT < value.len() {
         return Ok(());
     }
     let n = form_coding::decode_into(value, &mut out);
-    found(rt, first(&out, n))
+    then(first(&out, n))
+}
+
+fn decoded(rt: &impl Print, value: &[u8]) -> io::Result<()> {
+    with_decoded(value, |text| found(rt, text))
 }
 
 fn decoded_in_turns(rt: &impl Print, value: &[u8]) -> io::Result<()> {
@@ -243,13 +238,9 @@ fn place_says(rt: &impl Print, s: &[u8], place: Place) -> io::Result<()> {
 
 fn form_says(rt: &impl Print, args: &[u8]) -> io::Result<()> {
     let s = rest(args);
-    let f = form::read(s, word(args));
-    let outcome = f.outcome;
-    let places = f.places;
-    let place = places[0];
-    match outcome {
-        Outcome::Malformed => found(rt, b"malformed"),
-        Outcome::WellFormed => place_says(rt, s, place),
+    match form::read(s, word(args)) {
+        Some(places) => place_says(rt, s, places[0]),
+        None => found(rt, b"malformed"),
     }
 }
 
@@ -261,18 +252,13 @@ fn names(rt: &impl Print, set: Scope) -> io::Result<()> {
 
 fn value_says(rt: &impl Print, value: &[u8]) -> io::Result<()> {
     match scope::read(value) {
-        ScopeValue::Invalid => found(rt, b"invalid"),
-        ScopeValue::Names(set) => names(rt, set),
+        Some(set) => names(rt, set),
+        None => found(rt, b"invalid"),
     }
 }
 
 fn scope_says(rt: &impl Print, coded: &[u8]) -> io::Result<()> {
-    let mut value = [0u8; MOST_TEXT];
-    if MOST_TEXT < coded.len() {
-        return Ok(());
-    }
-    let n = form_coding::decode_into(coded, &mut value);
-    value_says(rt, first(&value, n))
+    with_decoded(coded, |value| value_says(rt, value))
 }
 
 // ---- the registry of the visit
@@ -311,7 +297,7 @@ fn put_client(registry: &mut [u8], start: usize, kind: u8, id: &[u8], redirect: 
 
 // "Client 0: confidential, `s6BhdRkqt3`, `gX1fBat3bV`, `https://client.example.com/cb`, set 11. Client 1: public, `barnapp`,
 // `https://barn.example/r?x=1`, set 1."
-fn put_clients(registry: &mut [u8]) {
+fn put_clients(registry: &mut [u8; REGISTRY_SIZE]) {
     put_client(
         registry,
         0,
@@ -333,6 +319,13 @@ fn put_clients(registry: &mut [u8]) {
 
 // ---- the exports, as a host calls them
 
+// A registry and a token store, on which the exports are called.
+#[derive(Drop)]
+struct Visit {
+    registry: [u8; REGISTRY_SIZE],
+    store: token_store::StoreBytes,
+}
+
 // Writes a refusal's number, or a status, and what was written behind it.
 fn answered(rt: &impl Print, label: &[u8], n: u32, output: &[u8]) -> io::Result<()> {
     say_number(rt, label, n as u64)?;
@@ -340,150 +333,122 @@ fn answered(rt: &impl Print, label: &[u8], n: u32, output: &[u8]) -> io::Result<
     found(rt, output)
 }
 
-fn authorize_with(
-    rt: &impl Print,
-    query: &[u8],
-    decision: u64,
-    farm: u64,
-    registry: &[u8],
-    store: &mut [u8],
-    clock: u64,
-    random: &[u8],
-) -> io::Result<()> {
-    let mut output = [0u8; limits::LEAST_OUTPUT];
-    let r = authorization_server::poplarchime_authorize(
-        query,
-        decision,
-        (farm % 4294967296) as u32,
-        registry,
-        store,
-        clock,
-        random,
-        &mut output,
-    );
-    answered(rt, b"refusal ", r.refusal, first(&output, r.length))
-}
+impl Visit {
+    fn new() -> Visit {
+        let mut registry = [0u8; REGISTRY_SIZE];
+        put_clients(&mut registry);
+        Visit {
+            registry,
+            store: [0u8; token_store::layout::STORE_SIZE],
+        }
+    }
 
-fn authorize(rt: &impl Print, clock: &[u8], registry: &[u8], store: &mut [u8]) -> io::Result<()> {
-    let mut random = [0u8; limits::CODE_RANDOM];
-    let decision = rest(clock);
-    let farm = rest(decision);
-    let hex = rest(farm);
-    let n = from_hex(hex, &mut random);
-    authorize_with(
-        rt,
-        rest(hex),
-        number(decision),
-        number(farm),
-        registry,
-        store,
-        number(clock),
-        first(&random, n),
-    )
+    // A token store with nothing in it, again.
+    fn forget(&mut self) {
+        self.store.fill(0);
+    }
+
+    fn authorize(&mut self, rt: &impl Print, clock: &[u8]) -> io::Result<()> {
+        let mut random = [0u8; limits::CODE_RANDOM];
+        let mut output = [0u8; limits::LEAST_OUTPUT];
+        let decision = rest(clock);
+        let farm = rest(decision);
+        let hex = rest(farm);
+        let n = from_hex(hex, &mut random);
+        let r = authorization_server::poplarchime_authorize(
+            rest(hex),
+            number(decision),
+            (number(farm) % 4294967296) as u32,
+            &self.registry,
+            &mut self.store,
+            number(clock),
+            first(&random, n),
+            &mut output,
+        );
+        answered(rt, b"refusal ", r.refusal, first(&output, r.length))
+    }
+
+    fn token(&mut self, rt: &impl Print, clock: &[u8]) -> io::Result<()> {
+        let mut random = [0u8; limits::TOKEN_RANDOM];
+        let mut output = [0u8; limits::LEAST_OUTPUT];
+        let hex = rest(clock);
+        let body = rest(hex);
+        let n = from_hex(hex, &mut random);
+        let r = authorization_server::poplarchime_token(
+            rest(body),
+            word(body),
+            &self.registry,
+            &mut self.store,
+            number(clock),
+            first(&random, n),
+            &mut output,
+        );
+        replied(rt, r, &output)
+    }
+
+    fn revoke(&mut self, rt: &impl Print, clock: &[u8]) -> io::Result<()> {
+        let mut output = [0u8; limits::LEAST_OUTPUT];
+        let body = rest(clock);
+        let r = authorization_server::poplarchime_revoke(
+            rest(body),
+            word(body),
+            &self.registry,
+            &mut self.store,
+            number(clock),
+            &mut output,
+        );
+        replied(rt, r, &output)
+    }
+
+    fn check(&mut self, rt: &impl Print, clock: &[u8]) -> io::Result<()> {
+        let r = authorization_server::poplarchime_check(
+            rest(clock),
+            &self.registry,
+            &mut self.store,
+            number(clock),
+        );
+        checked(rt, r)
+    }
 }
 
 // Writes the numbers that the token or the revocation endpoint answered, and the reply.
 fn replied(rt: &impl Print, r: TokenReply, output: &[u8]) -> io::Result<()> {
-    say_number(rt, b"refusal ", r.refusal as u64)?;
-    say_number(rt, b", challenge ", r.challenge as u64)?;
+    say_number(rt, b"refusal ", u64::from(r.refusal))?;
+    say_number(rt, b", challenge ", u64::from(r.challenge))?;
     answered(rt, b", status ", r.status, first(output, r.length))
 }
 
-fn token_with(
-    rt: &impl Print,
-    header: &[u8],
-    body: &[u8],
-    registry: &[u8],
-    store: &mut [u8],
-    clock: u64,
-    random: &[u8],
-) -> io::Result<()> {
-    let mut output = [0u8; limits::LEAST_OUTPUT];
-    let r = authorization_server::poplarchime_token(
-        header,
-        body,
-        registry,
-        store,
-        clock,
-        random,
-        &mut output,
-    );
-    replied(rt, r, &output)
-}
-
-fn token(rt: &impl Print, clock: &[u8], registry: &[u8], store: &mut [u8]) -> io::Result<()> {
-    let mut random = [0u8; limits::TOKEN_RANDOM];
-    let hex = rest(clock);
-    let body = rest(hex);
-    let n = from_hex(hex, &mut random);
-    token_with(
-        rt,
-        rest(body),
-        word(body),
-        registry,
-        store,
-        number(clock),
-        first(&random, n),
-    )
-}
-
-fn revoke(rt: &impl Print, clock: &[u8], registry: &[u8], store: &mut [u8]) -> io::Result<()> {
-    let mut output = [0u8; limits::LEAST_OUTPUT];
-    let body = rest(clock);
-    let r = authorization_server::poplarchime_revoke(
-        rest(body),
-        word(body),
-        registry,
-        store,
-        number(clock),
-        &mut output,
-    );
-    replied(rt, r, &output)
-}
-
 fn checked(rt: &impl Print, r: CheckReply) -> io::Result<()> {
-    say_number(rt, b"refusal ", r.refusal as u64)?;
-    say_number(rt, b", live ", r.live as u64)?;
-    say_number(rt, b", client ", r.client as u64)?;
-    say_number(rt, b", farm ", r.farm as u64)?;
-    say_number(rt, b", set ", r.scope as u64)?;
+    say_number(rt, b"refusal ", u64::from(r.refusal))?;
+    say_number(rt, b", live ", u64::from(r.live))?;
+    say_number(rt, b", client ", u64::from(r.client))?;
+    say_number(rt, b", farm ", u64::from(r.farm))?;
+    say_number(rt, b", set ", u64::from(r.scope))?;
     say_number(rt, b", seconds left ", r.secondsleft)?;
     say(rt, b"\n")
 }
 
-fn check(rt: &impl Print, clock: &[u8], registry: &[u8], store: &mut [u8]) -> io::Result<()> {
-    checked(
-        rt,
-        authorization_server::poplarchime_check(rest(clock), registry, store, number(clock)),
-    )
-}
-
 // ---- the lines
 
-fn run(
-    rt: &impl Print,
-    command: u8,
-    args: &[u8],
-    registry: &[u8],
-    store: &mut [u8],
-) -> io::Result<()> {
+// Runs the command that the letter begins: any word that begins with it is that command.
+fn run(rt: &impl Print, command: u8, args: &[u8], visit: &mut Visit) -> io::Result<()> {
     match command {
-        b'a' => authorize(rt, args, registry, store),
+        b'a' => visit.authorize(rt, args),
         b'b' => base64(rt, args),
-        b'c' => check(rt, args, registry, store),
+        b'c' => visit.check(rt, args),
         b'd' => decoded_in_turns(rt, args),
         b'f' => form_says(rt, args),
         b'h' => handle(rt, args),
         b'l' => letters(rt, args),
         b'm' => message(rt, args),
         b'n' => {
-            octets::clear_at(store, 0, store.len());
+            visit.forget();
             Ok(())
         }
         b'o' => octets_written(rt, args),
-        b'r' => revoke(rt, args, registry, store),
+        b'r' => visit.revoke(rt, args),
         b's' => scope_says(rt, args),
-        b't' => token(rt, args, registry, store),
+        b't' => visit.token(rt, args),
         b'u' => url_digest(rt, args),
         b'w' => written(rt, args),
         _ => found(rt, b"no such command"),
@@ -491,29 +456,29 @@ fn run(
 }
 
 // Writes a line, and runs it unless it is empty or a comment.
-fn run_line(rt: &impl Print, line: &[u8], registry: &[u8], store: &mut [u8]) -> io::Result<()> {
+fn run_line(rt: &impl Print, line: &[u8], visit: &mut Visit) -> io::Result<()> {
     say(rt, line)?;
     say(rt, b"\n")?;
-    if line.len() == 0 {
-        return Ok(());
+    match line {
+        [] | [b'#', ..] => Ok(()),
+        [command, ..] => run(rt, *command, rest(line), visit),
     }
-    if line[0] == b'#' {
-        return Ok(());
-    }
-    run(rt, line[0], rest(line), registry, store)
 }
 
-fn run_lines(rt: &impl Print, lines: &[u8], registry: &[u8], store: &mut [u8]) -> io::Result<()> {
-    let mut at = 0;
-    while at < lines.len() {
-        let end = at + octets::index_of(&lines[at..], b'\n');
-        run_line(rt, &lines[at..end], registry, store)?;
-        at = end + 1;
+fn run_lines(rt: &impl Print, lines: &[u8], visit: &mut Visit) -> io::Result<()> {
+    if lines.is_empty() {
+        return Ok(());
+    }
+    // a line feed ends a line, and what stands behind the last one is a line unless it is empty
+    let text = lines.strip_suffix(b"\n").unwrap_or(lines);
+    for line in text.split(|b| *b == b'\n') {
+        run_line(rt, line, visit)?;
     }
     Ok(())
 }
 
 // Reads the input to the front of `buf` until it is full or the input ends, and gives how many bytes that are.
+// Not std's `read_exact`, which takes an input that ends before for an error.
 fn read_full(rt: &impl Input, buf: &mut [u8]) -> io::Result<usize>
     ensures { IfOk result (λ n. n ≤ length buf.new) }
 {
@@ -530,10 +495,8 @@ fn read_full(rt: &impl Input, buf: &mut [u8]) -> io::Result<usize>
 }
 
 fn main(rt: HostRuntime) -> io::Result<()> {
-    let mut registry = [0u8; REGISTRY_SIZE];
-    put_clients(&mut registry);
-    let mut store = [0u8; token_store::layout::STORE_SIZE];
+    let mut visit = Visit::new();
     let mut lines = [0u8; MOST_INPUT];
     let n = read_full(&rt, &mut lines)?;
-    run_lines(&rt, &lines[..n], &registry, &mut store)
+    run_lines(&rt, &lines[..n], &mut visit)
 }

@@ -1,54 +1,40 @@
 -- The tests come in the order of the refusals. What the test of the registry told is carried by the place past it.
-use Rattle.std.proofs.Common.{◌≡◌, ℕ, length, true, sym, ap, ◌∙◌}
-use mathlib.Core.Bool.{not}
+use Rattle.std.proofs.Common.{◌≡◌, Some, None, sym, ◌∙◌, arith}
+use Rattle.std.proofs.lemmas.Result.{err_from_is_err_and}
 use borrow.Author.Tests.{lt-ltb, le-ltb}
-use Rattle.client_registry.specs.Registry.{clients_of, fit_registry}
-use Rattle.token_store.specs.Fit.{fit_store}
+use Rattle.protocol.specs.Refusals.{first_of}
 use Rattle.protocol.specs.Outcomes.{admit}
-use Rattle.protocol.proofs.Reasons.{none, stop, pass, first-counts}
 use Rattle.admission.proofs.Admitting.{told-clients, told-unfit}
 use Rattle.admission.proofs.admit.Goals as goal
-use Rattle.admission.proofs.admit.Goals.{In-Clients, After-fit}
-
-told : (c : In-Clients)
-    → let registry = c.args.registry.now in
-    (fit_registry registry ≡ true) × (c.in-Clients.clients ≡ length (clients_of registry))
-told c = told-clients _ _ (sym c.in-Clients.is ∙ c.fitness_of.ensures)
-
-stored : (c : After-fit) → c.in-Clients.clients ≡ length (clients_of c.args.registry.now)
-    → let a = c.args in
-    fit_store (length (clients_of a.registry.now)) a.store.now ≡ c.fit.result
-stored c count = ap (λ (n : ℕ). fit_store n c.args.store.now) (sym count) ∙ sym c.fit.ensures
 
 pub returns-then-unfit : goal.returns-then-unfit
-unfolding admit
-returns-then-unfit c = sym (first-counts (stop c.if-unfit.true))
+unfolding admit first_of
+returns-then-unfit c = rw c.if-unfit.true
 
-pub returns-in_default : goal.returns-in_default
-unfolding admit
-returns-in_default c =
-    sym (first-counts (pass c.if-unfit.false (stop (ap not (told-unfit _ (sym c.in_default.is ∙ c.fitness_of.ensures))))))
+pub returns-in_err-clients : goal.returns-in_err-clients
+unfolding admit first_of
+returns-in_err-clients c =
+    let refused = err_from_is_err_and c.from_residual.result c.from_residual.ensures.1 in
+    let none : c.fitness_of.result ≡ None = grind arith in
+    rw (refused.1, refused.2, c.if-unfit.false, told-unfit _ (sym none ∙ c.fitness_of.ensures)) (let said = rw none at c.in_err-clients.ensures.value in cc)
 
 pub returns-then-not-fit : goal.returns-then-not-fit
-unfolding admit
+unfolding admit first_of
 returns-then-not-fit c =
-    let at = goal.at.returns-then-not-fit c in
-    let known = told at.In-Clients in
-    let unfit = ap not (stored at.After-fit known.1 ∙ c.if-not-fit.true) in
-    sym (first-counts (pass c.if-unfit.false (pass (ap not known.0) (stop unfit))))
+    let some : c.fitness_of.result ≡ Some c.in_ok-clients.clients = grind arith in
+    let told = told-clients _ _ (sym some ∙ c.fitness_of.ensures) in
+    rw (c.if-unfit.false, told.0, ← told.1, ← c.fit.ensures, c.if-not-fit.true)
 
-pub returns-then-clock-gt-LATEST_TIME : goal.returns-then-clock-gt-LATEST_TIME
-unfolding admit
-returns-then-clock-gt-LATEST_TIME c =
-    let at = goal.at.returns-then-clock-gt-LATEST_TIME c in
-    let known = told at.In-Clients in
-    let fit = ap not (stored at.After-fit known.1 ∙ c.if-not-fit.false) in
-    sym (first-counts (pass c.if-unfit.false (pass (ap not known.0) (pass fit (stop (lt-ltb _ _ c.if-clock-gt-LATEST_TIME.true))))))
+pub returns-then-late : goal.returns-then-late
+unfolding admit first_of
+returns-then-late c =
+    let some : c.fitness_of.result ≡ Some c.in_ok-clients.clients = grind arith in
+    let told = told-clients _ _ (sym some ∙ c.fitness_of.ensures) in
+    rw (c.if-unfit.false, told.0, ← told.1, ← c.fit.ensures, c.if-not-fit.false, lt-ltb _ _ c.if-late.true)
 
 pub returns : goal.returns
-unfolding admit
+unfolding admit first_of
 returns c =
-    let at = goal.at.returns c in
-    let known = told at.In-Clients in
-    let fit = ap not (stored at.After-fit known.1 ∙ c.if-not-fit.false) in
-    sym (first-counts (pass c.if-unfit.false (pass (ap not known.0) (pass fit (pass (le-ltb _ _ c.if-clock-gt-LATEST_TIME.false) none)))))
+    let some : c.fitness_of.result ≡ Some c.in_ok-clients.clients = grind arith in
+    let told = told-clients _ _ (sym some ∙ c.fitness_of.ensures) in
+    rw (c.if-unfit.false, told.0, ← told.1, ← c.fit.ensures, c.if-not-fit.false, le-ltb _ _ c.if-late.false)

@@ -13,12 +13,12 @@ returns-then-r-ne-CONFIDENTIAL_KIND c =
     sym (no-secret r of.ensures.sound (ne_eqb (get_or r 0 0) confidential_kind c.if-r-ne-CONFIDENTIAL_KIND.true))
     ∙ ap (λ (x : Client). x.secret) of.ensures.client
 
-pub field_text-requires : goal.field_text-requires
-field_text-requires c =
+pub text-requires : goal.text-requires
+text-requires c =
     let of = c.record_of-r in
     let r = of.result.now in
     let secret = has-secret r of.ensures.sound (eq-eqb (get_or r 0 0) confidential_kind c.if-r-ne-CONFIDENTIAL_KIND.false) in
     omega (arith, secret.secret.within, secret.size)
 
 pub returns : goal.returns
-returns c = c.field_text.ensures ∙ ap (λ (x : Client). x.secret) c.record_of-r.ensures.client
+returns c = c.text.ensures ∙ ap (λ (x : Client). x.secret) c.record_of-r.ensures.client

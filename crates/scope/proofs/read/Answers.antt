@@ -1,62 +1,41 @@
--- The texts before `at` are names, and `set` is theirs: what is left to read gives the value's set, or its fault.
-use Rattle.std.proofs.Common.{◌≡◌, ◌+◌, ◌≤◌, length, drop, sym, ◌∙◌, ap, arith, length-drop}
-use native.Mathlib.Nat.{add-sub_cancel_left}
-use Rattle.octets.specs.Lists.{part, index_of}
-use Rattle.octets.proofs.Lists.{part-rest}
-use Rattle.octets.proofs.Pieces.{remaining, index-le}
-use Rattle.scope.specs.Set.{of_byte, join}
-use Rattle.scope.specs.Value.{bit_of}
-use Rattle.scope.specs.declared.Scope.{Scope}
+-- The next text is the first that is left; where it is a name, what is read of the others says what the value says.
+use borrow.Author.Rules.{rules}
+use borrow.Author.Tests.{tests}
+use lib.Dec.{eqb}
+use Rattle.std.proofs.Common.{◌≡◌, ◌∷◌, sym, ◌∙◌, ap}
+use Rattle.std.proofs.lemmas.Fn.{always_returns_same}
+use Rattle.octets.proofs.Splits.{left, left-next}
 use Rattle.scope.proofs.Steps.{read_from, read-start, read_name, read-other, read-end}
 use Rattle.scope.proofs.read.Goals as goal
-use Rattle.scope.proofs.read.Goals.{After-index_of, After-name_bit-bit}
+use Rattle.scope.proofs.read.Goals.{In-Some}
 
-pub loop-at-init : goal.loop-at-init
-loop-at-init c = (omega arith, read-start c.args.v.now)
+pub loop-text-init : goal.loop-text-init
+loop-text-init c =
+    rw (c.into_iter-text-iterator.ensures.into_iter_gives, c.split-text-items.ensures.rest, c.split-text-items.ensures.done) (read-start c.args.v.now)
 
--- the next space is found, within the value
-space : (c : After-index_of)
-    → let v = c.args.v.now in
-    let at = c.loop-at.at in
-    (c.index_of.result ≡ index_of 32 (drop at v)) × (at + c.index_of.result ≤ length v)
-space c =
-    let v = c.args.v.now in
-    let at = c.loop-at.at in
-    let e : c.index_of.result ≡ index_of 32 (drop at v) = rw (part-rest v at) at c.index_of.ensures in
-    (e, omega (arith, e, index-le 32 (drop at v), length-drop at v))
+told : (c : In-Some)
+    → left 32 c.loop-text.text-iterator.done c.loop-text.text-iterator.rest.now
+    ≡ c.in-Some.text.now ∷ left 32 c.next.new.self.done c.next.new.self.rest.now
+told c =
+    let h = c.in-Some.ensures.steps in
+    let key = h.2 (λ b. eqb b 32) (always_returns_same _ _ _ (λ a r q k. search (rules, tests))) in
+    rw h.0 (left-next 32 _ c.in-Some.text.now _ _ h.1 key.1)
 
-pub overflow_add-end : goal.overflow_add-end
-overflow_add-end c = omega (arith, (space (goal.at.overflow_add-end c).After-index_of).1)
+pub returns-in_err-named : goal.returns-in_err-named
+returns-in_err-named c =
+    let l = c.loop-text in
+    let t = told (goal.at.returns-in_err-named c).In-Some in
+    c.from_residual.ensures
+    ∙ sym (read-other l.set c.in-Some.text.now _ (sym c.named.ensures ∙ c.in_err-named.was)) ∙ sym (ap (read_from l.set) t) ∙ l.invariant
 
-pub slice_bounds-name_bit-end : goal.slice_bounds-name_bit-end
-slice_bounds-name_bit-end c = omega (arith, (space (goal.at.slice_bounds-name_bit-end c).After-index_of).1)
-
--- the number of the text up to it
-bit : (c : After-name_bit-bit)
-    → let v = c.args.v.now in
-    c.name_bit-bit.result ≡ bit_of (part v c.loop-at.at c.index_of.result)
-bit c = rw add-sub_cancel_left at c.name_bit-bit.ensures
-
-pub returns-then-bit-eq0 : goal.returns-then-bit-eq0
-returns-then-bit-eq0 c =
-    let v = c.args.v.now in
-    let l = c.loop-at in
-    let at = goal.at.returns-then-bit-eq0 c in
-    sym (read-other l.set v l.at _ _ (omega arith) (space at.After-index_of).0 (bit at.After-name_bit-bit) c.if-bit-eq0.true) ∙ l.invariant.1
-
-pub loop-at-preserved : goal.loop-at-preserved
-loop-at-preserved c =
-    let v = c.args.v.now in
-    let l = c.loop-at in
-    let at = goal.at.loop-at-preserved c in
-    let rest = remaining 32 v (l.at + c.index_of.result + 1) in
-    let j : c.join-set.result ≡ join l.set (of_byte c.name_bit-bit.result)
-    = c.join-set.ensures ∙ ap (join l.set) c.from_byte.ensures in
-    let n = read_name l.set v l.at _ _ (omega arith) (space at.After-index_of).0 (bit at.After-name_bit-bit) c.if-bit-eq0.false in
-    (omega (arith, (space at.After-index_of).1), ap (λ (s : Scope). read_from s rest) j ∙ sym n ∙ l.invariant.1)
+pub loop-text-preserved : goal.loop-text-preserved
+loop-text-preserved c =
+    let l = c.loop-text in
+    let t = told (goal.at.loop-text-preserved c).In-Some in
+    let n = read_name l.set c.in_ok-named.field-0 c.in-Some.text.now _ (sym c.named.ensures ∙ c.in_ok-named.was) in
+    rw c.join-set.ensures (sym n ∙ sym (ap (read_from l.set) t) ∙ l.invariant)
 
 pub returns : goal.returns
 returns c =
-    let v = c.args.v.now in
-    let l = c.loop-at in
-    sym (read-end l.set v l.at c.loop-at-test.false) ∙ l.invariant.1
+    let l = c.loop-text in
+    sym (read-end l.set l.text-iterator.done c.in-None.ensures.steps.0 l.text-iterator.rest.now) ∙ l.invariant

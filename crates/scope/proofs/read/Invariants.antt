@@ -1,12 +1,9 @@
--- The texts before `at` are names, and `set` is theirs: what is left to read gives the value's set, or its fault.
-use Rattle.std.proofs.Common.{◌≡◌, ◌+◌, ◌-◌, ◌≤◌, length}
-use Rattle.octets.proofs.Pieces.{remaining}
+-- The texts so far are names, and `set` is theirs: what is left to read gives the value's set, or nothing.
+use Rattle.std.proofs.Common.{◌≡◌}
 use Rattle.scope.specs.Value.{read_scope}
+use Rattle.octets.proofs.Splits.{left}
 use Rattle.scope.proofs.Steps.{read_from}
 use Rattle.scope.proofs.read.Given as goal
 
-abbrev pub invariant-loop-at : goal.invariant-loop-at
-invariant-loop-at l = (l.at ≤ length l.v + 1) × (read_from l.set (remaining 32 l.v l.at) ≡ read_scope l.v)
-
-abbrev pub decreases-loop-at : goal.decreases-loop-at
-decreases-loop-at l = length l.v + 1 - l.at
+abbrev pub invariant-loop-text : goal.invariant-loop-text
+invariant-loop-text l = read_from l.set (left 32 l.text-iterator.done l.text-iterator.rest.now) ≡ read_scope l.v

@@ -1,2 +1,0 @@
--- Laws of the table of error words.
-pub mod Words

@@ -1,2 +1,0 @@
--- error_words: the table of the error words.
-pub mod Table

@@ -1,0 +1,2 @@
+-- parameters: what a field says of its name.
+pub mod Fields

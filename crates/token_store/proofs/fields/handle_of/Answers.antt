@@ -1,0 +1,8 @@
+-- The handle lies where the layout says.
+use Rattle.std.proofs.Common.{rules, sym, ap}
+use Rattle.token_store.specs.declared.Slot.{Slot}
+use Rattle.token_store.proofs.Slots.{slot-in}
+use Rattle.token_store.proofs.fields.handle_of.Goals as goal
+
+pub returns : goal.returns
+returns c = sym (ap (λ (s : Slot). s.handle) (slot-in c.args.slot.now (search rules)))
