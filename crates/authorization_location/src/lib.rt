@@ -22,8 +22,8 @@ fn write_redirect(output: &mut [u8], redirect: &[u8]) -> usize
     ensures { Appended output.old 0 (redirect.now ++ separator redirect.now) output.new result }
 {
     let end = octets::append(output, 0, redirect);
-    let mark = if redirect.contains(&b'?') { b"&" } else { b"?" };
-    octets::append(output, end, mark)
+    let between = if redirect.contains(&b'?') { b"&" } else { b"?" };
+    octets::append(output, end, between)
 }
 
 // Writes the code that was granted from `at` on, and says where it ends.

@@ -1,4 +1,4 @@
--- The mark is chosen by whether the address holds a `?`.
+-- What stands between is chosen by whether the address holds a `?`.
 use Rattle.std.proofs.Common.{◌≡◌, ◌∙◌, sym}
 use lib.Dec.{eqb}
 use Rattle.octets.specs.Search.{any}
@@ -13,6 +13,6 @@ unfolding separator
 returns c =
     let holds : any (λ b. eqb b 63) c.args.redirect.now ≡ c.contains.result = sym (c.contains.ensures.value ∙ any-list (λ b. eqb b 63) c.args.redirect.now) in
     elim c.if-contains.branch [
-      | then-contains w ↦ rw (holds, w.if-contains.true) (append-both c.append-end.ensures (rw w.mark-is at c.append.ensures))
-      | else-contains w ↦ rw (holds, w.if-contains.false) (append-both c.append-end.ensures (rw w.mark-is at c.append.ensures))
+      | then-contains w ↦ rw (holds, w.if-contains.true) (append-both c.append-end.ensures (rw w.between-is at c.append.ensures))
+      | else-contains w ↦ rw (holds, w.if-contains.false) (append-both c.append-end.ensures (rw w.between-is at c.append.ensures))
     ]
