@@ -7,6 +7,9 @@ ghost use Rattle.protocol.specs.Answers.{word_text, word_number, word_status};
 
 use protocol::ErrorWord;
 
+// The bytes of the longest word.
+pub const LONGEST: usize = 25;
+
 // What there is to know of a word: its HTTP status and its text.
 #[derive(Clone, Copy)]
 struct Row(u32, &'static [u8]);
@@ -59,7 +62,7 @@ pub fn status(word: ErrorWord) -> u32
     row_of(word).0
 }
 
-// Writes a word from `at` on, and says where it ends. The longest takes 25 bytes.
+// Writes a word from `at` on, and says where it ends. The longest takes `LONGEST` bytes.
 pub fn append_word(out: &mut [u8], at: usize, word: ErrorWord) -> usize
     requires { at + 25 ≤ length out.old }
     ensures { Appended out.old at (word_text word) out.new result }

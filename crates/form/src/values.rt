@@ -31,7 +31,7 @@ pub fn any_repeated(s: &[u8], places: [Place; PLACES]) -> bool
     places.iter().any(|p| is_repeated(s, *p))
 }
 
-// Whether the name came once, with the bytes of e. All of the value is looked at, wherever the two differ.
+// Whether the name came once, with the bytes of e. All of the value is looked at, wherever the two differ, but for a longer e.
 #[tactic(auto, unfolding(crate::specs::Content::is_once, crate::specs::Places::view_as))]
 pub fn is_once(s: &[u8], p: Place, e: &[u8]) -> bool
     requires { Within s.now p }

@@ -118,10 +118,14 @@ fn compare_turn(s: &[u8], e: &[u8], k: usize) -> Compared
     }
 }
 
-// Whether v decodes to the bytes of e. It looks at all of v, wherever the two differ, and decodes into no buffer.
+// Whether v decodes to the bytes of e. It looks at all of v, wherever the two differ, and decodes into no buffer; but for an e that is
+// longer than v, since a value decodes to no more bytes than it has.
 pub fn value_equals(v: &[u8], e: &[u8]) -> bool
     ensures { result ≡ same (decode v.now) e.now }
 {
+    if v.len() < e.len() {
+        return false;
+    }
     let mut ok = true;
     let mut rest = v;
     let mut k = 0;

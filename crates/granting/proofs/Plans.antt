@@ -1,22 +1,24 @@
 -- Laws of the steps of a grant, and of what follows from a plan (protocol's Granting.antt).
 --
--- In order: what the search for the client's own code or token says; the plan of an exchange by the slot found; what follows from a plan's reasons, where one applies,
--- where none does, and where others are passed before them; what is decided.
+-- In order: what the search for the client's own code or token says; what a refused exchange leaves; what a revocation leaves; the kinds of
+-- a code; the plan of an exchange by the slot found; what follows from a plan's reasons, where one applies, where none does, and where
+-- others are passed before them; what is decided.
 --
 -- Not here: how a list of reasons ends (protocol's `Reasons`).
 -- Assumes nothing.
 use mathlib.Core.Path.{◌≡◌, refl, sym, ap, ◌∙◌}
 use mathlib.Core.Bool.{Bool, true, false, cond, not, ◌&&◌, and-false}
 use mathlib.Core.List.{List, [], ◌∷◌, ◌++◌}
-use lib.Dec.{leb}
+use borrow.Author.Tests.{eq-eqb, ne_eqb}
+use lib.Dec.{leb, eqb, lit≤}
 use lib.ListN.{set}
 use Rattle.std.specs.Prelude.{Option, Some, None, is_some, Result, Ok, Err, is_ok, IfErr}
-use Prim.Native.Nat.{ℕ}
+use Prim.Native.Nat.{ℕ, ◌≤◌}
 use Rattle.octets.specs.Search.{index_where, any}
-use Rattle.token_store.specs.Store.{Store, with_slots, is_bound_code, spent_code, is_sought, sought_key, found_at, slot_of, decode}
+use Rattle.token_store.specs.Store.{Store, with_slots, code_kind, kind_refresh, kind_last, free_slot, is_live, origin_of, is_bound_code, spent_code, is_sought, sought_key, without_tokens, found_at, slot_of, decode}
 use Rattle.token_store.specs.declared.Slot.{Slot}
 use Rattle.token_store.specs.declared.Sought.{Sought}
-use Rattle.token_store.specs.declared.Sought.TheVariants.{Code as sought_code}
+use Rattle.token_store.specs.declared.Sought.TheVariants.{Code as sought_code, Spent as sought_spent, Access as sought_access, Token as sought_token}
 use Rattle.token_store.proofs.Slots.{free-dead}
 use Rattle.token_store.proofs.Scans.{First as FirstSlot, found_first, found_none}
 use Rattle.protocol.specs.declared.ErrorWord.TheVariants.{InvalidGrant}
@@ -26,10 +28,10 @@ use Rattle.protocol.specs.declared.Refusal.{Refusal}
 use Rattle.protocol.specs.declared.Refusal.TheVariants.{Token, Failed}
 use Rattle.protocol.specs.Answers.{Decision}
 use Rattle.protocol.specs.Refusals.{Reason, when}
-use Rattle.protocol.specs.Granting.{Plan, after_reasons, decision_on, slots_by, shown_slot, is_own, first_handle, second_handle, room, is_unverified, any_taken, exchange_plan}
+use Rattle.protocol.specs.Granting.{Plan, after_reasons, decision_on, slots_by, shown_slot, is_own, first_handle, second_handle, room, is_unverified, any_taken, refused_slots, revoked_slots, exchange_plan}
 use Rattle.protocol.proofs.Reasons.{First, first-counts}
 use Rattle.granting.specs.declared.Issued.{Issued}
-use Rattle.granting.specs.Granted.{granted_with, granted_by, decision_of, Follows, own_at, spent_on}
+use Rattle.granting.specs.Granted.{granted_with, granted_by, decision_of, Follows, own_at, spent_on, freed_at}
 
 -- ---- the client's own
 
@@ -83,6 +85,58 @@ module _ (t client : ℕ) (sought : Sought) (presented : Option (List ℕ)) (b :
       let never : false ≡ true = sym (and-false (is_sought sought (slot_of (decode b) i))) ∙ passes in
       cc
   own-presented None e found none = cc
+
+-- ---- what a refused exchange leaves: the slots, where an unspent code has the handle, or no spent one is the client's own
+
+module _ (t client : ℕ) (presented : Option (List ℕ)) (slots : List Slot) where
+  pub found-keeps : any (sought_key sought_code presented) slots ≡ true → slots ≡ refused_slots t client presented slots
+  found-keeps e = rw e
+
+  pub unowned-keeps : is_own t client (shown_slot sought_spent presented slots) ≡ false → slots ≡ refused_slots t client presented slots
+  unowned-keeps e = rw (e, and-false)
+
+  -- else the slots without the tokens that came from the code of the handle presented
+  pub again-clears : (handle : List ℕ) → presented ≡ Some handle → any (sought_key sought_code presented) slots ≡ false
+      → is_own t client (shown_slot sought_spent presented slots) ≡ true
+      → without_tokens sought_token handle slots ≡ refused_slots t client presented slots
+  again-clears handle p e o = rw (e, o, p)
+
+-- ---- what a revocation leaves: a token that is freed takes access tokens along where it is a refresh token
+
+module _ (i : ℕ) (token : Slot) (slots : List Slot) where
+  pub refresh-freed : token.kind ≡ kind_refresh → without_tokens sought_access (origin_of token) (set slots i free_slot) ≡ freed_at i token slots
+  refresh-freed e = rw (eq-eqb token.kind kind_refresh e)
+
+  pub other-freed : (token.kind ≡ kind_refresh → ⊥) → set slots i free_slot ≡ freed_at i token slots
+  other-freed n = rw (ne_eqb token.kind kind_refresh n)
+
+-- the slots, where the token presented is not live; else without the one that is found, which is the client's or another's
+
+module _ (t : ℕ) (presented : Option (List ℕ)) (slots : List Slot) where
+  abbrev token : Slot
+  token = shown_slot sought_token presented slots
+
+  pub dead_keeps : is_live t token ≡ false → slots ≡ revoked_slots t presented slots
+  dead_keeps e = rw e
+
+  pub live-frees : (i : ℕ) → FirstSlot (sought_key sought_token presented) slots i → is_live t token ≡ true
+      → freed_at i token slots ≡ revoked_slots t presented slots
+  live-frees i first e = rw (e, first.replaced free_slot)
+
+  module _ (client : ℕ) (e : is_live t token ≡ true) where
+    pub others-token : (token.client ≡ client → ⊥) → (is_live t token && not (eqb token.client client)) ≡ true
+    others-token n = rw (e, ne_eqb token.client client n)
+
+    pub own-token : token.client ≡ client → (is_live t token && not (eqb token.client client)) ≡ false
+    own-token o = rw (e, eq-eqb token.client client o)
+
+-- ---- the kinds of a code are kinds
+
+pub code-kind-bound : (bound challenged : Bool) → code_kind bound challenged ≤ kind_last
+code-kind-bound true true = lit≤ tt
+code-kind-bound true false = lit≤ tt
+code-kind-bound false true = lit≤ tt
+code-kind-bound false false = lit≤ tt
 
 -- ---- an exchange whose code is found in slot i: its plan, by that slot
 

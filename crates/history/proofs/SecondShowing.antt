@@ -295,7 +295,20 @@ module _ (clients : List Client) (t : ℕ) (slots : List Slot) where
   again-second v never (revocation header body clock output) = refl
   again-second v never (check presented clock) = refl
 
-  -- a call that shows a code again is refused as `invalid_grant`
+  -- a call that shows a code again does so by the text of a handle, and is refused as `invalid_grant`
+  pub again-valid : (c : Call) → is_again c ≡ true → is_some (read_handle (code_shown c)) ≡ true
+  unfolding is_again code_shown
+  again-valid (authorization query decision farm handed) e = absurd (false≢true e)
+  again-valid (token header body handed) e =
+      let p = read_handle (value_of body (bytes "code")) in
+      let again = is_shown_again t (call_client clients header body) p slots in
+      by-test (is_some p) (λ y. y)
+      (λ n.
+      let none = again-none p (call_client clients header body) n in
+      absurd (false≢true (sym none ∙ and_right (is_admitted clients header body && is_exchange body) again e)))
+  again-valid (revocation header body clock output) e = absurd (false≢true e)
+  again-valid (check presented clock) e = absurd (false≢true e)
+
   exchange-refused : (random header body : List ℕ) (handed : Handed) → read_token clients header body ≡ exchange_reading clients header body
       → is_again (token header body handed) ≡ true
       → decision_on (plan_of t slots random (asked clients (token header body handed))) ≡ Err (Token InvalidGrant)

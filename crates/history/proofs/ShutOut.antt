@@ -10,6 +10,7 @@ use mathlib.Core.Bool.{not, Bool, true, false, cond, ◌&&◌, ◌||◌, false�
 use mathlib.Core.List.Memᴰ
 use mathlib.Core.List.{List, [], ◌∷◌, ◌++◌, map}
 use Prim.Native.Nat.{ℕ, ◌≤◌, max}
+use Rattle.std.specs.Prelude.{replicate, unwrap_or}
 use native.Mathlib.Omega.{arith}
 use lib.Dec.{ltb, eqb, lit≤, lit<}
 use lib.ListN.{length, get_or, length-map, get_or-map}
@@ -23,20 +24,19 @@ use Rattle.octets.proofs.Booleans.{and_left, cond_of}
 use Rattle.octets.proofs.Counting.{length-replace_first, length-replace_all}
 use Rattle.octets.proofs.Searches.{replace_first-each, replace_all-each}
 use Rattle.octets.proofs.Lists.{same_refl, same-eq}
-use Rattle.encoding.specs.Hex.{read_handle, presents}
+use Rattle.encoding.specs.Hex.{read_handle}
 use Rattle.encoding.specs.Base64.{read_digest, base64_text, digit64}
 use Rattle.form_coding.specs.Coding.{sound}
 use Rattle.client_registry.specs.Sample.{sample_clients, sample_registry}
 use Rattle.client_registry.specs.Registry.{clients_of}
-use Rattle.token_store.specs.Store.{kind_code, kind_bound_code, code_kind, no_link, is_bound_code, is_challenged, free_slot, Store, encode, decode, fresh, slot_of, is_vacant, concat, encode_slot, with_slots, with_time, is_sought}
+use Rattle.token_store.specs.Store.{kind_code, kind_bound_code, code_kind, no_link, is_bound_code, is_challenged, free_slot, Store, encode, decode, fresh, slot_of, is_vacant, concat, encode_slot, with_slots, with_time, is_sought, comes_from}
 use Rattle.token_store.specs.Fit.{fit_link}
-use Rattle.token_store.specs.Layout.{time_size, slot_count}
+use Rattle.token_store.specs.Layout.{time_size, slot_count, handle_size}
 use Rattle.token_store.specs.declared.Slot.{Slot}
 use Rattle.token_store.specs.declared.Sought.TheVariants.{Code as sought_code, Refresh as sought_refresh, Token as sought_token}
 use Rattle.token_store.proofs.Slots.{free-fits, sought-used}
 use Rattle.token_store.proofs.Fits.{fit_free, fit-used}
 use Rattle.protocol.specs.Requests.{fits}
-use Rattle.protocol.specs.Granting.{is_issued_on}
 use Rattle.protocol.specs.Outcomes.{Handed}
 use Rattle.protocol.proofs.Computing.{text_definitions, registry_definitions, digest_definitions, endpoint_definitions}
 use Rattle.protocol.proofs.Starred.{count_up, rfc_query}
@@ -177,7 +177,7 @@ unfolding withdrawn
 sound-withdrawn (authorization query decision farm handed) granted before after b a = a
 sound-withdrawn (token header body handed) true before after b a = a
 sound-withdrawn (token header body handed) false before after b a =
-    let from = is_issued_on (read_handle (value_of body (bytes "code"))) in
+    let from = comes_from sought_token (unwrap_or (read_handle (value_of body (bytes "code"))) (replicate handle_size 0)) in
     record {
       size = length-replace_all free_slot from after.slots ∙ a.size;
       early = a.early;
@@ -274,7 +274,7 @@ sound-unasked body s w = cond_of (SoundSlot (length sample_clients)) (is_challen
 
 sound-plainly : (body : List ℕ) → KeepsSound (plainly body)
 sound-plainly body s w =
-    let is = presents (read_digest (value_of body (bytes "code_verifier"))) s.link in
+    let is = same (unwrap_or (read_digest (value_of body (bytes "code_verifier"))) no_link) s.link in
     cond_of (SoundSlot (length sample_clients)) (is_challenged s && is) (bare s) s (λ e. sound-bare s (and_left (is_challenged s) is e) w) (λ _. w)
 
 module _ (is_grant_type : List ℕ → Bool) (f : List ℕ → Slot → Slot) (keeps : (body : List ℕ) → KeepsSound (f body))

@@ -6,16 +6,17 @@
 use mathlib.Core.Bool.{not, Bool, true, false, cond, ◌&&◌, ◌||◌}
 use mathlib.Core.List.{List, ◌++◌, map}
 use Prim.Native.Nat.{ℕ, ◌+◌}
+use Rattle.std.specs.Prelude.{replicate, unwrap_or}
 use lib.ListN.{drop}
 use Rattle.octets.specs.Lists.{same}
 use Rattle.octets.specs.Search.{replace_first, index_where}
 use Rattle.octets.specs.Text.{bytes}
 use Rattle.octets.specs.BigEndian.{big_endian_bytes}
-use Rattle.encoding.specs.Hex.{read_handle, presents}
+use Rattle.encoding.specs.Hex.{read_handle}
 use Rattle.encoding.specs.Base64.{read_digest}
 use Rattle.form.specs.Content.{form_value, is_missing}
-use Rattle.token_store.specs.Store.{code_kind, no_link, is_bound_code, is_challenged, free_slot, Store, encode, decode, sought_key, slot_of, issue, with_slots, is_sought}
-use Rattle.token_store.specs.Layout.{time_size}
+use Rattle.token_store.specs.Store.{code_kind, no_link, is_bound_code, is_challenged, free_slot, Store, encode, decode, sought_key, slot_of, issue, with_slots, is_sought, without_tokens}
+use Rattle.token_store.specs.Layout.{time_size, handle_size}
 use Rattle.token_store.specs.declared.Slot.{Slot}
 use Rattle.token_store.specs.declared.Sought.{Sought}
 use Rattle.token_store.specs.declared.Sought.TheVariants.{Code as sought_code, Refresh as sought_refresh, Token as sought_token}
@@ -23,7 +24,6 @@ use Rattle.history.specs.Contents.{value_of, is_exchange, is_refresh, is_credent
 use Rattle.history.specs.Server.{nothing_named, ours}
 use Rattle.history.specs.Calls.{Call, authorization, token, revocation, check, handed_to, Result, Server, fresh_store}
 use Rattle.history.proofs.Examples.{header}
-use Rattle.protocol.specs.Granting.{without_issued_on}
 
 -- ---- servers that answer otherwise than ours
 
@@ -167,11 +167,12 @@ unwithdrawn c granted before after = cond granted after (with_slots after before
 unfoldable pub keeps_tokens : Server
 keeps_tokens = leaving_from unwithdrawn
 
--- a code that is shown again withdraws its tokens, whoever shows it
+-- a code that is shown again withdraws its tokens, whoever shows it; a text that is no handle counts as the handle of zeros
 unfoldable pub withdrawn : Call → Bool → Store → Store → Store
 withdrawn (authorization query decision farm handed) granted before after = after
 withdrawn (token header body handed) granted before after =
-    cond granted after (with_slots after (without_issued_on (read_handle (value_of body (bytes "code"))) after.slots))
+    let handle = unwrap_or (read_handle (value_of body (bytes "code"))) (replicate handle_size 0) in
+    cond granted after (with_slots after (without_tokens sought_token handle after.slots))
 withdrawn (revocation header body clock output) granted before after = after
 withdrawn (check presented clock) granted before after = after
 
@@ -255,9 +256,9 @@ unasked body s = cond (is_challenged s) (bare s) s
 unfoldable pub ignores_verifier : Server
 ignores_verifier = seeing is_exchange unasked
 
--- the challenge itself is taken for a verifier, as by the method `plain`
+-- the challenge itself is taken for a verifier, as by the method `plain`; a text that is no digest counts as zeros
 abbrev pub plainly : List ℕ → Slot → Slot
-plainly body s = cond (is_challenged s && presents (read_digest (value_of body (bytes "code_verifier"))) s.link) (bare s) s
+plainly body s = cond (is_challenged s && same (unwrap_or (read_digest (value_of body (bytes "code_verifier"))) no_link) s.link) (bare s) s
 
 unfoldable pub takes_challenge : Server
 takes_challenge = seeing is_exchange plainly

@@ -1,8 +1,8 @@
--- Laws of big-endian numbers, each once over the width: the functions at 4 and at 8 bytes cite them.
+-- Laws of big-endian numbers, each once over the width, but those of four bytes and of eight, which are std's two widths.
 --
--- In order: one byte more, two numbers behind each other, four bytes and eight as std reads them, the bound; the length of what is
--- written, four bytes and eight as std writes them; reading what was written and writing what was read; a field of one byte; a
--- number stored from its last byte.
+-- In order: one byte more, two numbers behind each other, four bytes written out, four bytes and eight as std reads them, the
+-- bound; the length of what is written, four bytes and eight as std writes them; reading what was written and writing what was
+-- read; a field of one byte; a number stored from its last byte.
 -- Assumes nothing.
 use mathlib.Core.Path.{◌≡◌, refl, sym, ap, ◌∙◌}
 use mathlib.Core.List.{List, [], ◌∷◌, ◌++◌}
@@ -65,22 +65,22 @@ be-split l at m n h =
     ap big_endian (part-add l at m n) ∙ be-append (part l at m) (part l (at + m) n) ∙ rw e
 
 -- four bytes, written out
-four-at : (l : List ℕ) (at : ℕ) → at + 4 ≤ length l
+pub be-four : (l : List ℕ) (at : ℕ) → at + 4 ≤ length l
     → big_endian (part l at 4) ≡ get_or l at 0 * 16777216 + get_or l (at + 1) 0 * 65536 + get_or l (at + 2) 0 * 256 + get_or l (at + 3) 0
-four-at l at h =
+be-four l at h =
     let z : get_or l (at + 0) 0 ≡ get_or l at 0 = ap (λ (k : ℕ). get_or l k 0) (add-zero at) in
     omega (arith, z, be-nil, be-more l at 0 (omega arith), be-more l at 1 (omega arith), be-more l at 2 (omega arith), be-more l at 3 (omega arith))
 
 -- std's numbers of four bytes and of eight
-pub be-four : (l : List ℕ) → length l ≡ 4 → from_be_bytes w32 l ≡ big_endian l
-be-four l e =
+pub be-from-four : (l : List ℕ) → length l ≡ 4 → from_be_bytes w32 l ≡ big_endian l
+be-from-four l e =
     let all : big_endian (part l 0 4) ≡ big_endian l = ap big_endian (take_all 4 l (omega arith)) in
-    omega (arith, all, four-at l 0 (omega arith))
+    omega (arith, all, be-four l 0 (omega arith))
 
-pub be-eight : (l : List ℕ) → length l ≡ 8 → from_be_bytes w64 l ≡ big_endian l
-be-eight l e =
+pub be-from-eight : (l : List ℕ) → length l ≡ 8 → from_be_bytes w64 l ≡ big_endian l
+be-from-eight l e =
     let all : big_endian (part l 0 8) ≡ big_endian l = ap big_endian (take_all 8 l (omega arith)) in
-    omega (arith, all, be-split l 0 4 4 (omega arith), four-at l 0 (omega arith), four-at l 4 (omega arith))
+    omega (arith, all, be-split l 0 4 4 (omega arith), be-four l 0 (omega arith), be-four l 4 (omega arith))
 
 pub be-bound : (l : List ℕ) → Bytes l → big_endian l < 256 ^ length l
 unfolding big_endian_from

@@ -1,6 +1,6 @@
 -- Laws of runs of stores, `sets l i v`: `v` stored element by element from index i on.
 --
--- In order: two runs, one behind the other; a run over the whole list; a run and a part of the list,
+-- In order: two runs, one behind the other; a run over the whole list; a copy, one byte further; a run and a part of the list,
 -- which stands before, behind or at the run; what stands after a write to a part.
 --
 -- Not here: `length-sets`, `sets-eq` (`lib.Seq`); a number stored from its last byte (`BigEndian`).
@@ -9,9 +9,10 @@ use mathlib.Core.Path.{◌≡◌, refl, sym, ap, ◌∙◌}
 use mathlib.Core.List.{List, [], ◌∷◌, ◌++◌, append_assoc, append-nil}
 use Prim.Native.Nat.{ℕ, suc, ◌+◌, ◌-◌, ◌≤◌, ◌<◌}
 use native.Mathlib.Nat.{zero-add, add-zero, add-suc, suc-add}
+use native.Mathlib.Numerals.{add-one}
 use native.Mathlib.Omega.{arith}
-use lib.ListN.{length, take, drop, set, drop_of_length-le}
-use lib.Seq.{sets, sets-eq, drop-drop, set_comm, drop_at, take-append_seam, drop-set-add, drop-set-lt, take-set-le, length-take-le}
+use lib.ListN.{length, take, drop, get_or, set, drop_of_length-le}
+use lib.Seq.{sets, sets-eq, drop-cons, drop-drop, set_comm, drop_at, take-append_seam, drop-set-add, drop-set-lt, take-set-le, length-take-le}
 use borrow.Rule.Slice.PartMut.{put_mid}
 use Rattle.octets.specs.Lists.{part}
 
@@ -30,6 +31,15 @@ sets-snoc l i (x ∷ u) y =
 -- a run over the whole list
 pub sets-all : (l v : List ℕ) → length v ≡ length l → sets l 0 v ≡ v
 sets-all l v e = sets-eq v l 0 (omega arith) ∙ rw (zero-add (length v), drop_of_length-le l {i = length v} (omega arith)) (append-nil v)
+
+-- ---- one byte further: what is left to store is one less
+
+pub copy-next : (b : List ℕ) (at : ℕ) (s : List ℕ) (i : ℕ) → i < length s
+    → sets (set b (at + i) (get_or s i 0)) (at + (i + 1)) (drop (i + 1) s) ≡ sets b (at + i) (drop i s)
+copy-next b at s i h = rw (add-one, add-suc, drop-cons s i 0 h)
+
+pub copy-end : (b : List ℕ) (k : ℕ) (s : List ℕ) (i : ℕ) → length s ≤ i → sets b k (drop i s) ≡ b
+copy-end b k s i h = rw (drop_of_length-le s h)
 
 -- ---- a run and a part
 

@@ -63,7 +63,10 @@ pub fn copy_at(b: &mut [u8], at: usize, src: &[u8])
     requires { at + length src.now ≤ length b.old }
     ensures { b.new ≡ sets b.old at src.now }
 {
-    b[at..at + src.len()].copy_from_slice(src);
+    // Not by `copy_from_slice`, of which the compiler makes memmove: of this loop it makes memcpy, which a host brings anyway.
+    for (i, &x) in src.iter().enumerate() {
+        b[at + i] = x;
+    }
 }
 
 // Writes a text from `at` on, and says where it ends.

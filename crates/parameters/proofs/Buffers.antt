@@ -1,6 +1,6 @@
--- What a buffer holds at its front, once a text was decoded into it.
+-- What a buffer holds at its front, once a text was decoded into it, and how long a form's value is.
 --
--- In order: a text that is decoded into a buffer of any size; a value of a form, in a buffer of 4,096 bytes.
+-- In order: a text that is decoded into a buffer of any size; how long a value of a form is, and one in a buffer of 4,096 bytes.
 --
 -- Not here: where a form's values stand (`form`, `Answers`).
 -- Assumes nothing.
@@ -36,7 +36,7 @@ pub ruleset decoded = (front_decoded, decode-length)
 -- ---- a value of a form
 
 -- a value is no longer than its form
-value-length : (s : List ℕ) (p : Place) → length (only_value (view_of s p)) ≤ length s
+pub value-length : (s : List ℕ) (p : Place) → length (only_value (view_of s p)) ≤ length s
 unfolding view_as only_value
 value-length s p = by p.count
   where

@@ -33,7 +33,7 @@ impl Field<'_> {
         form::is_repeated(self.form, self.place)
     }
 
-    // Whether the name came once, with the bytes of e. All of the value is looked at, wherever the two differ.
+    // Whether the name came once, with the bytes of e. All of the value is looked at, wherever the two differ, but for a longer e.
     pub fn is_once(&self, e: &[u8]) -> bool
         ensures { result ≡ is_once e.now (said_by self.now) }
     {

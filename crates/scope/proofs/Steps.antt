@@ -76,7 +76,7 @@ unfolding unwritten scope_text
 text-start set = refl
 
 -- the name at place k, and the rest behind it
-text-step : (set k : ℕ) (first : Bool) → k < 8
+pub text-step : (set k : ℕ) (first : Bool) → k < 8
     → unwritten set k first ≡ name_text (has set k) first k ++ unwritten set (k + 1) (first && not (has set k))
 unfolding unwritten name_text led chosen names
 text-step set k first h = rw (add-one, drop-cons names k [] h) (by (has set k) first)

@@ -1,4 +1,4 @@
--- Laws of one block: the loops that load its words, extend them and go through the rounds, one turn further.
+-- Laws of blocks: the loops that load a block's words and extend them, one turn further; the folds over its rounds and over blocks.
 -- Assumes nothing.
 use Rattle.std.proofs.Common.{◌≡◌, ℕ, zero, suc, ◌+◌, ◌-◌, ◌*◌, ◌/◌, ◌<◌, ◌≤◌, List, [], ◌∷◌, ◌++◌, length, get_or, take, drop, set, sym, refl, ap, ◌∙◌, add-one, arith, length-append, length-take-le, length-drop, drop-cons, drop_of_length-le, get_or-take, take-suc-set}
 use native.Mathlib.Nat.{suc-mul}

@@ -30,11 +30,9 @@ fn is_sought(slot: &SlotBytes, sought: Sought) -> bool
 fn matches(slot: &SlotBytes, sought: Sought, presented: Option<Handle>) -> bool
     ensures { result ≡ sought_key sought presented (decode_slot slot.now) }
 {
-    if !is_sought(slot, sought) {
-        return false;
-    }
     match presented {
-        Some(handle) => octets::equal(&handle, handle_of(slot)),
+        // The handle first: the kind is then looked at once where it is the one, not at each slot.
+        Some(handle) => octets::equal(&handle, handle_of(slot)) && is_sought(slot, sought),
         None => false,
     }
 }

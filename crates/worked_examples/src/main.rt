@@ -334,15 +334,6 @@ fn answered(rt: &impl Print, label: &[u8], n: u32, output: &[u8]) -> io::Result<
 }
 
 impl Visit {
-    fn new() -> Visit {
-        let mut registry = [0u8; REGISTRY_SIZE];
-        put_clients(&mut registry);
-        Visit {
-            registry,
-            store: [0u8; token_store::layout::STORE_SIZE],
-        }
-    }
-
     // A token store with nothing in it, again.
     fn forget(&mut self) {
         self.store.fill(0);
@@ -495,7 +486,12 @@ fn read_full(rt: &impl Input, buf: &mut [u8]) -> io::Result<usize>
 }
 
 fn main(rt: HostRuntime) -> io::Result<()> {
-    let mut visit = Visit::new();
+    // Laid where it stays: a function that handed it on would hold it a second time.
+    let mut visit = Visit {
+        registry: [0u8; REGISTRY_SIZE],
+        store: [0u8; token_store::layout::STORE_SIZE],
+    };
+    put_clients(&mut visit.registry);
     let mut lines = [0u8; MOST_INPUT];
     let n = read_full(&rt, &mut lines)?;
     run_lines(&rt, &lines[..n], &mut visit)

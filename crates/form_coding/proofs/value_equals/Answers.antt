@@ -1,12 +1,19 @@
--- A turn takes some bytes of what is left, and its bytes are those of e or not.
+-- What v decodes to is no longer than v. A turn takes some bytes of what is left, and its bytes are those of e or not.
 use Rattle.std.proofs.Common.{sym, ◌∙◌, ap, arith, ℕ, ◌≡◌, ◌-◌, ◌<◌, length, length-drop, drop, eqb-true}
 use borrow.Author.Tests.{eqb-false}
 use Rattle.octets.specs.Lists.{part}
+use Rattle.form_coding.specs.Coding.{decode}
 use Rattle.form_coding.specs.Turns.{turn_width}
-use Rattle.octets.proofs.Lists.{part-rest}
+use Rattle.octets.proofs.Lists.{part-rest, same_length}
 use Rattle.form_coding.proofs.Coding.{compare-done}
 use Rattle.form_coding.proofs.Turns.{turn-fits, compare-more}
+use Rattle.form_coding.proofs.RoundTrip.{decode-length}
 use Rattle.form_coding.proofs.value_equals.Goals as goal
+
+pub returns-then-v-e : goal.returns-then-v-e
+returns-then-v-e c =
+    let v = c.args.v.now in
+    sym (same_length (decode v) c.args.e.now (λ e. omega (arith, e, decode-length v, c.if-v-e.true)))
 
 pub loop-rest-smaller : goal.loop-rest-smaller
 loop-rest-smaller c =
